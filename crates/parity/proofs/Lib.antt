@@ -1,0 +1,3 @@
+pub mod Zips
+pub mod Xors
+mod Columns

@@ -1,0 +1,4 @@
+pub mod Chunks
+pub mod Fairs
+pub mod Filling
+pub mod Rounds

@@ -1,0 +1,5 @@
+pub mod Contents
+pub mod Rows
+pub mod Buffers
+pub mod Means
+pub mod Examples
