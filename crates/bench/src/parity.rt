@@ -36,7 +36,7 @@ fn parities(data: &mut [Fragment; DATA], rounds: u32) -> u8 {
 fn copies(data: &mut [Fragment; DATA], rounds: u32) -> u8 {
     let mut out = [[0u8; FRAGMENT_LENGTH]; DATA];
     for _ in 0..rounds {
-        out.copy_from_slice(&*data);
+        out = *data;
         data[0][0] = out[1][1];
     }
     out[0][0]
