@@ -22,7 +22,7 @@ pub struct StorageBox {
 }
 
 impl StorageBox {
-    pub fn new(heap: Global) -> StorageBox
+    pub(crate) fn new(heap: Global) -> StorageBox
         ensures { λ r. ⌜ vec-items (r .held) ≡ [] ⌝ }
     {
         StorageBox {
@@ -31,7 +31,7 @@ impl StorageBox {
     }
 
     // Keeps one fragment more.
-    pub fn keep(&mut self, key: Key, bytes: &Fragment) -> Result<(), AllocError>
+    pub(crate) fn keep(&mut self, key: Key, bytes: &Fragment) -> Result<(), AllocError>
         ensures { λ r. ⌜ vec-items (now (self .exit) .held) ≡ cond (isOk r) (vec-items (now (self .entry) .held) ++ record { key = key; bytes = now (bytes .entry) } ∷ []) (vec-items (now (self .entry) .held)) ⌝ }
     {
         self.held.push(Stored { key, bytes: *bytes })?;
@@ -46,7 +46,7 @@ impl StorageBox {
     }
 
     // The first fragment under this key.
-    pub fn find(&self, key: Key) -> Option<&Fragment> {
+    pub(crate) fn find(&self, key: Key) -> Option<&Fragment> {
         for stored in self.held.iter() {
             if stored.key == key {
                 return Some(&stored.bytes);

@@ -1,5 +1,13 @@
 // Packing readings into stripes, each stripe's fragments one to a box.
 ghost use mathlib.Core.Path.{_≡_};
+ghost use mathlib.Core.Bool.{true, cond, _&&_};
+ghost use mathlib.Core.List.{[]};
+ghost use Prim.Native.Nat.{_+_};
+ghost use lib.Dec.{ltb};
+ghost use lib.ListN.{length};
+ghost use Rattle.std.specs.Results.{isOk};
+ghost use Rattle.std.specs.Vec.{made};
+ghost use Rattle.stripe.specs.Means.{slotsIn};
 ghost use Rattle.packing.specs.Deltas.{deltaFor};
 use crate::boxes::StorageBox;
 use crate::fault::PackFault;
@@ -19,7 +27,7 @@ use workshop::reading::Reading;
 pub const GATE: u64 = 1;
 
 // A reading as a write: the truck is the file, the tyre the block.
-pub fn delta_for(reading: &Reading, version: u32) -> Delta
+pub(crate) fn delta_for(reading: &Reading, version: u32) -> Delta
     ensures { λ r. ⌜ r ≡ deltaFor (now (reading .entry)) version ⌝ }
 {
     Delta {
@@ -31,10 +39,24 @@ pub fn delta_for(reading: &Reading, version: u32) -> Delta
     }
 }
 
+// Each box keeps its fragment of the stripe.
+fn keep_image(boxes: &mut Vec<StorageBox>, key: Key, image: &StripeImage) -> Result<(), PackFault> {
+    for (server, into) in boxes.iter_mut().enumerate() {
+        if let Ok(number) = u8::try_from(server) {
+            if let Some(fragment) = image.on(number) {
+                into.keep(key, fragment)?;
+            }
+        }
+    }
+    Ok(())
+}
+
+mod looks;
+
 // Boxes being filled with stripes.
 #[derive(Drop)]
 pub struct Packer {
-    row: RowLength,
+    pub row: RowLength,
     boxes: Vec<StorageBox>,
     buffer: StripeBuffer,
     stripes: u64,
@@ -43,7 +65,9 @@ pub struct Packer {
 
 impl Packer {
     // Empty boxes, one for each server of the row.
-    pub fn new(heap: Global, row: RowLength) -> Result<Packer, PackFault> {
+    pub fn new(heap: Global, row: RowLength) -> Result<Packer, PackFault>
+        ensures { λ r. ⌜ made r (λ p. (p .row ≡ row) × (p .stripes ≡ 0) × (p .version ≡ 0)) ⌝ }
+    {
         let mut boxes = Vec::new(heap);
         for _ in 0..row.servers() {
             boxes.push(StorageBox::new(heap))?;
@@ -58,7 +82,9 @@ impl Packer {
     }
 
     // Adds a reading with the next version, and stores the stripe first where it is full.
-    pub fn add(&mut self, reading: &Reading) -> Result<(), PackFault> {
+    pub fn add(&mut self, reading: &Reading) -> Result<(), PackFault>
+        ensures { λ r. ⌜ now (self .exit) .version ≡ cond (isOk r) (now (self .entry) .version + 1) (now (self .entry) .version) ⌝ }
+    {
         let version = self.version.checked_add(1).ok_or(PackFault::Spent)?;
         let delta = delta_for(reading, version);
         let block = block_of(reading.kpa);
@@ -73,34 +99,19 @@ impl Packer {
     }
 
     // Stores the stripe's fragments under the next stripe number, and begins another.
-    pub fn seal(&mut self) -> Result<(), PackFault> {
+    pub fn seal(&mut self) -> Result<(), PackFault>
+        ensures version { λ _. ⌜ now (self .exit) .version ≡ now (self .entry) .version ⌝ }
+        ensures stripes { λ r. ⌜ now (self .exit) .stripes ≡ cond (isOk r && ltb 0 (length (slotsIn (now (self .entry) .buffer)))) (now (self .entry) .stripes + 1) (now (self .entry) .stripes) ⌝ }
+        ensures buffer { λ r. ⌜ (isOk r ≡ true → slotsIn (now (self .exit) .buffer) ≡ []) ⌝ }
+    {
         if self.buffer.filled() == 0 {
             return Ok(());
         }
         let key = Key::new(GATE, self.stripes).ok_or(PackFault::Spent)?;
         let image = StripeImage::new(&self.buffer, key);
-        for (server, into) in self.boxes.iter_mut().enumerate() {
-            if let Ok(number) = u8::try_from(server) {
-                if let Some(fragment) = image.on(number) {
-                    into.keep(key, fragment)?;
-                }
-            }
-        }
+        keep_image(&mut self.boxes, key, &image)?;
         self.stripes = self.stripes.saturating_add(1);
         self.buffer = StripeBuffer::new(self.row);
         Ok(())
-    }
-
-    pub fn boxes(&self) -> &[StorageBox] {
-        self.boxes.as_slice()
-    }
-
-    // How many stripes are stored.
-    pub fn stripes(&self) -> u64 {
-        self.stripes
-    }
-
-    pub fn row(&self) -> RowLength {
-        self.row
     }
 }

@@ -1,4 +1,9 @@
 // Reading the boxes back, with one of them missing if need be.
+ghost use mathlib.Core.Path.{_≡_};
+ghost use Rattle.std.specs.Vec.{made};
+ghost use Rattle.std.specs.declared.option.Option.the-variants.{None};
+ghost use Rattle.workshop.specs.declared.tyre.TyreId.{TyreId};
+ghost use Rattle.workshop.specs.Readings.{notedFor};
 use crate::boxes::StorageBox;
 use crate::fault::PackFault;
 use crate::fault::PackFromAlloc;
@@ -48,7 +53,7 @@ impl Row<'_> {
     }
 
     // The fragment of this key that belongs on this box.
-    pub fn fragment(&self, key: Key, server: u8) -> Option<Fragment> {
+    fn fragment(&self, key: Key, server: u8) -> Option<Fragment> {
         match self.fetch(key, server) {
             Some(fragment) => Some(*fragment),
             None => self.put_together(key, server),
@@ -91,7 +96,9 @@ fn note_stripe(newest: &mut Newest, row: &Row, key: Key) -> Result<(), PackFault
 }
 
 // The newest reading of each tyre, from so many stripes.
-pub fn read_back(heap: Global, row: &Row, stripes: u64) -> Result<Newest, PackFault> {
+pub fn read_back(heap: Global, row: &Row, stripes: u64) -> Result<Newest, PackFault>
+    ensures { λ r. ⌜ made r (λ newest. stripes ≡ 0 → (tyre : TyreId) → notedFor newest tyre ≡ None) ⌝ }
+{
     let mut newest = Newest::new(heap);
     for stripe in 0..stripes {
         let key = Key::new(GATE, stripe).ok_or(PackFault::Spent)?;

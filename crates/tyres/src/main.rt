@@ -66,7 +66,7 @@ fn low_tyres(
     missing: Option<u8>,
 ) -> Result<Vec<LowTyre>, PackFault> {
     let row = Row {
-        length: packer.row(),
+        length: packer.row,
         boxes: packer.boxes(),
         missing,
     };

@@ -10,7 +10,7 @@ use workshop::low::LowTyre;
 fn show_fragment(rt: &LibcRuntime, packer: &Packer, server: u8, stored: &Stored) -> io::Result<()> {
     let client = stored.key.client();
     let stripe = stored.key.stripe();
-    match part_on(packer.row(), stored.key, server) {
+    match part_on(packer.row, stored.key, server) {
         Some(Part::Parity) => print!(rt, " ({client}, {stripe}) parity;"),
         Some(Part::Data(index)) => print!(rt, " ({client}, {stripe}) data {index};"),
         None => print!(rt, " ({client}, {stripe});"),
