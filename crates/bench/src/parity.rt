@@ -22,24 +22,33 @@ fn pattern() -> [Fragment; DATA] {
     all
 }
 
-// Parity over and over, each time of data that the last parity has changed.
+// Parity over and over, each round of data that the last one has changed.
 fn parities(data: &mut [Fragment; DATA], rounds: u32) -> u8 {
     let mut out = [0u8; FRAGMENT_LENGTH];
-    for _ in 0..rounds {
+    for round in 0..rounds {
         xor_all(&*data, &mut out);
-        data[0][0] = out[1];
+        data[round as usize % DATA] = out;
     }
-    out[0]
+    sum(&out)
 }
 
-// Copies of the same bytes over and over.
+// Copies of the same bytes over and over, each round with one fragment changed.
 fn copies(data: &mut [Fragment; DATA], rounds: u32) -> u8 {
     let mut out = [[0u8; FRAGMENT_LENGTH]; DATA];
-    for _ in 0..rounds {
+    for round in 0..rounds {
         out = *data;
-        data[0][0] = out[1][1];
+        data[round as usize % DATA] = out[(round as usize + 1) % DATA];
     }
-    out[0][0]
+    sum(&out[0])
+}
+
+// All bytes added up, so that each of them has to be made.
+fn sum(fragment: &Fragment) -> u8 {
+    let mut all: u8 = 0;
+    for byte in fragment {
+        all = all.wrapping_add(*byte);
+    }
+    all
 }
 
 fn report(rt: &LibcRuntime, what: &str, start: Instant, times: bool, check: u8) -> io::Result<()> {
