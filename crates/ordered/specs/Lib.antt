@@ -1,0 +1,4 @@
+pub mod Maps
+pub mod Laws
+pub mod Places
+pub mod Tables
