@@ -63,7 +63,7 @@ fn report(rt: &LibcRuntime, what: &str, start: Instant, times: bool, check: u8) 
     }
 }
 
-pub fn run(rt: &LibcRuntime, times: bool) -> io::Result<()> {
+pub(crate) fn run(rt: &LibcRuntime, times: bool) -> io::Result<()> {
     let mut data = pattern();
     let start = Instant::now(rt)?;
     let check = parities(&mut data, ROUNDS);

@@ -3,6 +3,7 @@
 ghost use Prim.Native.Nat.{_<_, _^_};
 
 mod calls;
+mod looks;
 
 #[derive(Clone, Copy, PartialEq, Eq, Debug)]
 pub struct Key {

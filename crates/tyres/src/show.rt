@@ -18,7 +18,7 @@ fn show_fragment(rt: &LibcRuntime, packer: &Packer, server: u8, stored: &Stored)
 }
 
 // What lies on which box.
-pub fn show_boxes(rt: &LibcRuntime, packer: &Packer) -> io::Result<()> {
+pub(crate) fn show_boxes(rt: &LibcRuntime, packer: &Packer) -> io::Result<()> {
     for (number, one) in packer.boxes().iter().enumerate() {
         print!(rt, "box {number}:")?;
         for stored in one.held() {
@@ -29,7 +29,7 @@ pub fn show_boxes(rt: &LibcRuntime, packer: &Packer) -> io::Result<()> {
     Ok(())
 }
 
-pub fn show_list(rt: &LibcRuntime, list: &[LowTyre]) -> io::Result<()> {
+pub(crate) fn show_list(rt: &LibcRuntime, list: &[LowTyre]) -> io::Result<()> {
     if list.is_empty() {
         return println!(rt, "  none");
     }

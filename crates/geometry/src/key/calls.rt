@@ -32,18 +32,6 @@ impl Key {
         Key::new(number / STRIPES, number % STRIPES)
     }
 
-    pub fn client(&self) -> u8
-        ensures { λ r. ⌜ r ≡ now (self .entry) .client ⌝ }
-    {
-        self.client
-    }
-
-    pub fn stripe(&self) -> u32
-        ensures { λ r. ⌜ r ≡ now (self .entry) .stripe ⌝ }
-    {
-        self.stripe
-    }
-
     // Keys are ordered by client, then by stripe: by this number.
     pub fn number(&self) -> u64
         ensures { λ r. ⌜ r ≡ numberOf (now (self .entry)) ⌝ }
