@@ -1,0 +1,4 @@
+pub mod Cached
+pub mod Overlays
+pub mod Agreement
+pub mod Calls

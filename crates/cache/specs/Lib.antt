@@ -1,0 +1,4 @@
+pub mod Sizes
+pub mod Slots
+pub mod Overlay
+pub mod Layer

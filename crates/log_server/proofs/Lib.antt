@@ -1,0 +1,9 @@
+pub mod Cuts
+pub mod Pieces
+pub mod Places
+pub mod Fronts
+pub mod Areas
+pub mod Meanings
+pub mod Parts
+pub mod Gaps
+pub mod Laws

@@ -1,0 +1,5 @@
+// A fragment server on bytes that are handed in: a log of records, the held ones first.
+mod edit;
+pub mod log;
+mod record;
+mod walk;
