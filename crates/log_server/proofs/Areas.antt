@@ -17,7 +17,8 @@ use Rattle.ordered.specs.Maps.{has, without}
 use Rattle.server.specs.Meaning.{Piece, pieceKey}
 use Rattle.log_server.specs.Records.{recordLength, records, recordKey, recordAt, freeRecord, pieceIn, isHeld, zeros}
 use Rattle.log_server.specs.Area.{mostRecords, wholeRecords, recordsOf, pieces, front, rest, apart, inOrder, areaPieces, areaPlaces}
-use Rattle.log_server.specs.Calls.{placeOf, withRecord, withoutRecord, wiped}
+use Rattle.log_server.specs.Calls.{withRecord, withoutRecord, wiped}
+use Rattle.log_server.specs.Walks.{placeOf}
 use Rattle.log_server.proofs.Cuts.{length-records, length-pieces, records-add, records-append, records-join, records-head, records-take, records-cons}
 use Rattle.log_server.proofs.Places.{place-within, without-at}
 use Rattle.log_server.proofs.Pieces.{apart-push, apart-without}

@@ -14,7 +14,8 @@ use Rattle.geometry.specs.Keys.{keyNumber}
 use Rattle.server.specs.Meaning.{Piece, Meaning, holds, free}
 use Rattle.log_server.specs.Records.{recordLength, freeRecord, heldRecord, pieceIn}
 use Rattle.log_server.specs.Area.{recordsOf, front, wholeRecords, inOrder, areaPieces, areaPlaces, areaMeaning}
-use Rattle.log_server.specs.Calls.{placeOf, withRecord, withoutRecord, deletedAt}
+use Rattle.log_server.specs.Calls.{withRecord, withoutRecord, deletedAt}
+use Rattle.log_server.specs.Walks.{placeOf}
 use Rattle.log_server.specs.Laws.{nothing, Reopens, Untouched, Rest-stays, Area-laws}
 use Rattle.log_server.specs.Examples.{Examples}
 use Rattle.log_server.proofs.Places.{place-within}

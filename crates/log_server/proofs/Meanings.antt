@@ -25,7 +25,8 @@ use Rattle.ordered.proofs.Maps.{without-absent, length-without-held}
 use Rattle.server.specs.Meaning.{Piece, pieceKey, IsPiece, holding, keyIn, bytesOf, orElse, holds, keyFrom, free, fetched, held-answer, store-after, delete-after, wipe-after}
 use Rattle.log_server.specs.Records.{leadLength, recordLength, recordAt, stripeIn, pieceIn, isHeld, heldRecord}
 use Rattle.log_server.specs.Area.{pieces, areaPieces, areaPlaces, mapOf, areaMeaning}
-use Rattle.log_server.specs.Calls.{placeOf, withRecord, withoutRecord, stored, deletedAt, deleted, wiped}
+use Rattle.log_server.specs.Calls.{withRecord, withoutRecord, stored, deletedAt, deleted, wiped}
+use Rattle.log_server.specs.Walks.{placeOf}
 use Rattle.log_server.specs.Sound.{area-sound}
 use Rattle.log_server.proofs.Cuts.{pieces-from}
 use Rattle.log_server.proofs.Pieces.{find-map-of, length-map-of, map-of-push, map-of-without}

@@ -13,7 +13,7 @@ use Rattle.std.specs.declared.option.Option.the-variants.{Some, None}
 use Rattle.ordered.specs.Maps.{find, has, put, without, least}
 use Rattle.server.specs.Meaning.{Piece, pieceKey, keyIn}
 use Rattle.log_server.specs.Area.{mapOf}
-use Rattle.log_server.specs.Calls.{placeOf, nearer}
+use Rattle.log_server.specs.Walks.{placeOf, nearer}
 
 pub has-place : (ps : List Piece) (k : ℕ) → has pieceKey ps k ≡ isSome (placeOf ps k)
 has-place [] k = refl

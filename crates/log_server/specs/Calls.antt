@@ -1,20 +1,15 @@
 -- The bytes of an area after each call that changes them.
-use Prim.Native.Nat.{ℕ, suc, _+_, _-_, _*_}
-use mathlib.Core.List.{List, [], _∷_, _++_}
-use mathlib.Core.Bool.{cond, _&&_}
-use lib.Dec.{eqb, ltb, leb}
+use Prim.Native.Nat.{ℕ, _+_, _-_, _*_}
+use mathlib.Core.List.{List, _++_}
+use mathlib.Core.Bool.{cond}
+use lib.Dec.{eqb}
 use lib.ListN.{length, take, drop, replicate}
-use Rattle.std.specs.Options.{mapped}
 use Rattle.std.specs.declared.option.Option.{Option}
 use Rattle.std.specs.declared.option.Option.the-variants.{Some, None}
-use Rattle.server.specs.Meaning.{Piece, pieceKey, holds, free}
+use Rattle.server.specs.Meaning.{holds, free}
 use Rattle.log_server.specs.Records.{recordLength, freeRecord}
+use Rattle.log_server.specs.Walks.{placeOf}
 use Rattle.log_server.specs.Area.{areaPieces, areaPlaces, areaMeaning}
-
--- the nearer of a key x and the best so far, of those from k up
-abbrev pub nearer : ℕ → ℕ → Option ℕ → Option ℕ
-nearer k x None = cond (leb k x) (Some x) None
-nearer k x (Some y) = cond (leb k x && ltb x y) (Some x) (Some y)
 
 -- record i is r, and nothing else changes
 abbrev pub withRecord : List ℕ → ℕ → List ℕ → List ℕ
@@ -25,11 +20,6 @@ abbrev pub withoutRecord : List ℕ → ℕ → ℕ → List ℕ
 withoutRecord area i h =
     take (recordLength * i) area
     ++ (take (recordLength * (h - 1 - i)) (drop (recordLength * (i + 1)) area) ++ (freeRecord ++ drop (recordLength * h) area))
-
--- the first record that has a key
-abbrev pub placeOf : List Piece → ℕ → Option ℕ
-placeOf [] k = None
-placeOf (p ∷ ps) k = cond (eqb (pieceKey p) k) (Some 0) (mapped suc (placeOf ps k))
 
 abbrev pub stored : List ℕ → ℕ → List ℕ → List ℕ
 stored area k r =

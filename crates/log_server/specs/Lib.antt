@@ -1,6 +1,7 @@
 pub mod Records
 pub mod Area
 pub mod Sound
+pub mod Walks
 pub mod Calls
 pub mod Servers
 pub mod Laws

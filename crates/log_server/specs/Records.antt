@@ -25,15 +25,14 @@ recordKey r = keyNumber (getD r 1 0) (stripeIn r)
 abbrev pub pieceIn : List ℕ → Piece
 pieceIn r = (recordKey r, drop leadLength r)
 
--- state 1, a key that can be formed, two zeros
+-- state 1, a key that can be formed, two zeros; four bytes always make a stripe's number
 abbrev pub isHeld : List ℕ → Bool
 isHeld r = eqb (getD r 0 0) 1 && isKey (getD r 1 0) (stripeIn r) && eqb (getD r 2 0) 0 && eqb (getD r 3 0) 0
 
 abbrev pub zeros : List ℕ → Bool
 zeros bytes = all-pass (λ b. eqb b 0) bytes
 
--- a record as it is written
-
+-- a held record as it is written: its first eight bytes, and all of it
 abbrev pub lead : ℕ → ℕ → List ℕ
 lead client stripe = 1 ∷ client ∷ 0 ∷ 0 ∷ stripe % 256 ∷ stripe / 256 % 256 ∷ stripe / 65536 % 256 ∷ stripe / 16777216 % 256 ∷ []
 

@@ -8,7 +8,7 @@ ghost use Rattle.ordered.specs.Maps.{has, least};
 ghost use Rattle.server.specs.Meaning.{pieceKey, keyIn};
 ghost use Rattle.log_server.specs.Records.{recordLength, records, recordAt, recordKey};
 ghost use Rattle.log_server.specs.Area.{pieces, front, apart, inOrder, mapOf};
-ghost use Rattle.log_server.specs.Calls.{placeOf, nearer};
+ghost use Rattle.log_server.specs.Walks.{placeOf, nearer};
 use crate::record::RECORD_LENGTH;
 use crate::record::all_zero;
 use crate::record::is_held;

@@ -6,7 +6,7 @@ ghost use denote.Ref.{name};
 ghost use Rattle.geometry.specs.Keys.{numberOf, numberIn};
 ghost use Rattle.server.specs.Meaning.{holds, free, keyFrom, fetched, held-answer};
 ghost use Rattle.log_server.specs.Area.{areaPieces};
-ghost use Rattle.log_server.specs.Calls.{placeOf};
+ghost use Rattle.log_server.specs.Walks.{placeOf};
 ghost use Rattle.log_server.specs.Examples.{Examples};
 ghost use Rattle.log_server.specs.Laws.{Area-laws};
 ghost use Rattle.log_server.specs.Records.{recordLength};

@@ -12,6 +12,7 @@ use crate::image::StripeImage;
 use geometry::key::Key;
 use geometry::part::Part;
 use geometry::placement::part_on;
+use geometry::row::RowLength;
 use geometry::sizes::FRAGMENT_LENGTH;
 use geometry::sizes::Fragment;
 use parity::xor_all;
@@ -43,5 +44,17 @@ impl StripeImage {
             Part::Parity => Some(&self.pieces[0]),
             Part::Data(index) => Some(&self.pieces[index as usize + 1]),
         }
+    }
+
+    pub fn row(&self) -> RowLength
+        ensures { λ r. ⌜ r ≡ now (self .entry) .row ⌝ }
+    {
+        self.row
+    }
+
+    pub fn key(&self) -> Key
+        ensures { λ r. ⌜ r ≡ now (self .entry) .key ⌝ }
+    {
+        self.key
     }
 }

@@ -8,7 +8,7 @@ use Rattle.std.proofs.shelf.Lists.{drop-all}
 use Rattle.server.specs.Meaning.{Piece}
 use Rattle.log_server.specs.Records.{recordAt, pieceIn}
 use Rattle.log_server.specs.Area.{pieces}
-use Rattle.log_server.specs.Calls.{placeOf}
+use Rattle.log_server.specs.Walks.{placeOf}
 use Rattle.log_server.proofs.Cuts.{pieces-from, length-pieces}
 use Rattle.log_server.proofs.Places.{place-here, place-on}
 use Rattle.log_server.proofs.walk.find.Needs as need

@@ -3,7 +3,7 @@ use Prim.Native.Nat.{_+_}
 use lib.ListN.{drop}
 use Rattle.std.specs.Options.{mapped}
 use Rattle.log_server.specs.Area.{pieces}
-use Rattle.log_server.specs.Calls.{placeOf}
+use Rattle.log_server.specs.Walks.{placeOf}
 use Rattle.log_server.proofs.walk.find.Given as given
 
 abbrev pub Inv-loop-i : given.InvT-loop-i

@@ -7,7 +7,7 @@ use Rattle.std.proofs.shelf.Lists.{drop-all}
 use Rattle.std.specs.declared.option.Option.{Option}
 use Rattle.server.specs.Meaning.{Piece}
 use Rattle.log_server.specs.Area.{pieces}
-use Rattle.log_server.specs.Calls.{nearer}
+use Rattle.log_server.specs.Walks.{nearer}
 use Rattle.log_server.proofs.Cuts.{pieces-from, length-pieces}
 use Rattle.log_server.proofs.Places.{nearest, nearest-is}
 use Rattle.log_server.proofs.walk.nearest.Needs as need

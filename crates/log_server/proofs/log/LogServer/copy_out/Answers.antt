@@ -5,7 +5,7 @@ use Rattle.std.proofs.shelf.Lists.{take-all, length-drop}
 use Rattle.std.specs.declared.option.Option.the-variants.{Some, None}
 use Rattle.geometry.specs.Keys.{numberOf}
 use Rattle.log_server.specs.Area.{areaPieces}
-use Rattle.log_server.specs.Calls.{placeOf}
+use Rattle.log_server.specs.Walks.{placeOf}
 use Rattle.log_server.proofs.Places.{place-within}
 use Rattle.log_server.proofs.Areas.{area-kept}
 use Rattle.log_server.proofs.Meanings.{held-is, fetched-none, fetched-some}

@@ -4,7 +4,7 @@ use native.Mathlib.Omega.{arith}
 use Rattle.geometry.specs.Keys.{numberOf}
 use Rattle.server.specs.Meaning.{Piece}
 use Rattle.log_server.specs.Area.{pieces}
-use Rattle.log_server.specs.Calls.{placeOf}
+use Rattle.log_server.specs.Walks.{placeOf}
 use Rattle.log_server.proofs.Areas.{area-kept, kept-pieces}
 use Rattle.log_server.proofs.log.LogServer.place.Needs as need
 

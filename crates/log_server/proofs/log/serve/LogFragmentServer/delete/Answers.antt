@@ -7,7 +7,8 @@ use lib.ListN.{length}
 use Rattle.std.specs.declared.option.Option.the-variants.{Some, None}
 use Rattle.geometry.specs.Keys.{numberOf}
 use Rattle.log_server.specs.Area.{areaPieces, areaPlaces, areaMeaning}
-use Rattle.log_server.specs.Calls.{placeOf, withoutRecord, deletedAt, deleted}
+use Rattle.log_server.specs.Calls.{withoutRecord, deletedAt, deleted}
+use Rattle.log_server.specs.Walks.{placeOf}
 use Rattle.log_server.proofs.Places.{place-within}
 use Rattle.log_server.proofs.Areas.{area-kept}
 use Rattle.log_server.proofs.Meanings.{held-is, delete-counts, delete-means}
