@@ -4,7 +4,7 @@ use mathlib.Core.Path.{_≡_}
 use mathlib.Core.Bool.{Bool, _&&_}
 use mathlib.Core.List.{List, [], map}
 use lib.Dec.{eqb, ltb}
-use lib.ListN.{length, getD}
+use lib.ListN.{length, getD, set}
 use Rattle.std.specs.Iters.{counting}
 use Rattle.std.specs.declared.option.Option.{Option}
 use Rattle.std.specs.declared.option.Option.the-variants.{Some, None}
@@ -15,7 +15,7 @@ use Rattle.fragment.specs.declared.cause.Cause.{Cause}
 use Rattle.fragment.specs.declared.delta.Kind.the-variants.{Trim}
 use Rattle.fragment.specs.declared.layout.Layout.the-variants.{Two}
 use Rattle.fragment.specs.Slots.{Filled, readSlot, contentFits}
-use Rattle.fragment.specs.Fragments.{slotIn}
+use Rattle.fragment.specs.Fragments.{slotIn, putSlot}
 use Rattle.stripe.specs.Contents.{openFragments}
 
 -- stands for a slot that is not there
@@ -45,3 +45,9 @@ isFair x =
 -- the fragments are those of the slots that they hold, and nothing else
 abbrev pub Formed : List (List ℕ) → ℕ → Type 0
 Formed fragments filled = fragments ≡ openFragments (slotsFrom fragments filled)
+
+-- the fragments with slot m of the stripe written over, and no other byte changed
+abbrev pub withSlot : List (List ℕ) → ℕ → Filled → List (List ℕ)
+withSlot fragments m x =
+    set fragments (m / slotsInFragment)
+    (putSlot (m % slotsInFragment) x (getD fragments (m / slotsInFragment) []))

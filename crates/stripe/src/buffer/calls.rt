@@ -11,6 +11,7 @@ ghost use Rattle.fragment.specs.Fragments.{readFragment};
 ghost use Rattle.fragment.specs.Slots.{filledWith};
 ghost use Rattle.std.specs.declared.result.Result.the-variants.{Ok};
 ghost use Rattle.stripe.specs.Contents.{dataBytes, slotsOf};
+ghost use Rattle.stripe.specs.Buffers.{withSlot};
 ghost use Rattle.stripe.specs.Means.{slotsIn};
 use crate::buffer::StripeBuffer;
 use crate::slots::SlotBytes;
@@ -40,12 +41,13 @@ impl StripeBuffer {
         }
     }
 
-    // Fills the next slot: by fragment, then by slot. False, and nothing changed, where every slot
+    // Fills the next slot: by fragment, then by slot; no byte of another slot changes. False, and nothing changed, where every slot
     // is filled or the delta has no version.
     pub fn fill(&mut self, delta: Delta, block: &Block) -> bool
         ensures room { λ r. ⌜ r ≡ (ltb 0 (delta .version) && ltb (length (slotsIn (now (self .entry)))) (slotCount (now (self .entry) .row .servers))) ⌝ }
         ensures slots { λ r. ⌜ slotsIn (now (self .exit)) ≡ cond r (slotsIn (now (self .entry)) ++ filledWith delta (now (block .entry)) ∷ []) (slotsIn (now (self .entry))) ⌝ }
         ensures row { λ _. ⌜ now (self .exit) .row ≡ now (self .entry) .row ⌝ }
+        ensures bytes { λ r. ⌜ now (self .exit) .slots .fragments ≡ cond r (withSlot (now (self .entry) .slots .fragments) (now (self .entry) .filled) (filledWith delta (now (block .entry)))) (now (self .entry) .slots .fragments) ⌝ }
     {
         let next = self.filled;
         let room = next < SLOTS_IN_FRAGMENT * (self.row.servers() as usize - 1);
