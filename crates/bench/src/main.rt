@@ -1,5 +1,7 @@
 // Speed of the formats' inner work. Without arguments it says what it did; with the word `times` it
 // says how long each round took, in nanoseconds.
+#![tactic(auto)]
+
 mod parity;
 
 use std::env;

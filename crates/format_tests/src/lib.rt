@@ -1,5 +1,7 @@
 // Tests of the formats. What the code answers is held against `model`, which states the rules once
 // more, in plain byte arithmetic, and uses nothing of the code under test.
+#![tactic(auto)]
+
 #[cfg(test)]
 mod edges;
 #[cfg(test)]

@@ -1,4 +1,6 @@
 // A fragment server on bytes that are handed in: a log of records, the held ones first.
+#![tactic(auto)]
+
 mod edit;
 pub mod log;
 mod record;

@@ -1,4 +1,6 @@
 // Parity: the exclusive or of fragments, which also gives a missing fragment back.
+#![tactic(auto)]
+
 ghost use Rattle.std.specs.Prelude.{◌≡◌};
 ghost use Rattle.parity.specs.Xor.{xored, xor_all, ParityCancels, OneFromTheOthers};
 

@@ -1,5 +1,7 @@
 // Gate readings packed into stripes over a row of servers, and read back, with one server missing
 // if need be.
+#![tactic(auto)]
+
 pub mod fault;
 pub mod fetch;
 mod note;

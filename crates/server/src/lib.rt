@@ -1,4 +1,6 @@
 // What a fragment server is: a fixed number of places, and a map from keys to fragments.
+#![tactic(auto)]
+
 pub mod calls;
 pub mod fault;
 pub mod fragment_server;

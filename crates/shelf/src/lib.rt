@@ -1,3 +1,5 @@
 // A fragment server that keeps its fragments in an ordered table, over memory handed in.
+#![tactic(auto)]
+
 pub mod place;
 pub mod shelf;

@@ -1,5 +1,7 @@
 // The workshop's task: gate readings on standard input, packed into stripes over boxes; one box is
 // lost, and the list of tyres that want air is the same.
+#![tactic(auto)]
+
 mod show;
 
 use anyhow::anyhow;

@@ -1,5 +1,7 @@
 // The workshop's side of the yard: gate readings of tyre pressure as lines of text and as blocks,
 // and the list of tyres that want air.
+#![tactic(auto)]
+
 mod decimal;
 pub mod low;
 pub mod newest;
