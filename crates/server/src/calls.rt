@@ -1,8 +1,11 @@
 // Calls of a server as values, and two servers asked the same.
-ghost use Rattle.std.specs.Prelude.{◌≡◌, true, Decides};
+ghost use Rattle.std.specs.Prelude.{◌≡◌, ◌==◌, ◌&&◌, true, nat_eq, Decides};
 ghost use Rattle.geometry.specs.Keys.{number_in};
 ghost use Rattle.server.specs.Calls.{answer_to, after_call, answers_to, after_calls};
+ghost use Rattle.std.specs.Cmp.Lexicographic.{pointwise};
 ghost use Rattle.std.specs.Cmp.Rules.{comparing};
+ghost use Rattle.std.specs.Result.{result_eq};
+ghost use Rattle.server.specs.Faults.{fault_number};
 ghost use Rattle.std.proofs.Common.{rules};
 
 use crate::fault::ServerFault;
@@ -30,7 +33,7 @@ pub struct Fetched {
 }
 
 impl PartialEq for Fetched {
-    ghost equals = { λ x y r. Decides r (x ≡ y) };
+    ghost eq = { λ x y. result_eq (λ _ _. true) (λ a b. fault_number a == fault_number b) x.answer y.answer && pointwise nat_eq x.bytes y.bytes };
 
     ghost laws = { Prim.search (comparing, rules) };
 

@@ -39,48 +39,48 @@ whole n k i bs l head p q r =
 told : (l : Layout) {w v : List ℕ} {r : Result (Option Delta) Cause} → r ≡ delta_answer (read_slot l w) → w ≡ v → r ≡ delta_answer (read_slot l v)
 told l e v = e ∙ ap (λ x. delta_answer (read_slot l x)) v
 
-pub returns-in-err-layout : goal.returns-in-err-layout
-returns-in-err-layout c = record { answer = search rules; reads_back = reads_back; one_form = one_form; older = older_slots; other_layouts = other_layouts }
+pub returns-in_err-layout : goal.returns-in_err-layout
+returns-in_err-layout c = record { answer = search rules; reads_back = reads_back; one_form = one_form; older = older_slots; other_layouts = other_layouts }
 
-pub returns-in-err-first : goal.returns-in-err-first
-returns-in-err-first c =
-    let e = err_from_is_err_and c.from-residual-in-err-first.result c.from-residual-in-err-first.ensures.1 in
+pub returns-in_err-first : goal.returns-in_err-first
+returns-in_err-first c =
+    let e = err_from_is_err_and c.from_residual-in_err-first.result c.from_residual-in_err-first.ensures.1 in
     record {
       answer =
           e.1 ∙ ap Err e.2
-          ∙ whole c.args.row.servers (number_of c.args.key) c.args.index c.args.fragment.now c.in-ok-layout.layout c.in-ok-layout.ensures
-          (told c.in-ok-layout.layout c.in-err-first.ensures c.slot-in.ensures.value) refl refl;
+          ∙ whole c.args.row.servers (number_of c.args.key) c.args.index c.args.fragment.now c.in_ok-layout.layout c.in_ok-layout.ensures
+          (told c.in_ok-layout.layout c.in_err-first.ensures c.slot_in.ensures.value) refl refl;
       reads_back = reads_back;
       one_form = one_form;
       older = older_slots;
       other_layouts = other_layouts;
     }
 
-pub returns-in-err-second : goal.returns-in-err-second
-returns-in-err-second c =
-    let e = err_from_is_err_and c.from-residual-in-err-second.result c.from-residual-in-err-second.ensures.1 in
+pub returns-in_err-second : goal.returns-in_err-second
+returns-in_err-second c =
+    let e = err_from_is_err_and c.from_residual-in_err-second.result c.from_residual-in_err-second.ensures.1 in
     record {
       answer =
           e.1 ∙ ap Err e.2
-          ∙ whole c.args.row.servers (number_of c.args.key) c.args.index c.args.fragment.now c.in-ok-layout.layout c.in-ok-layout.ensures
-          (told c.in-ok-layout.layout c.in-ok-first.ensures c.slot-in.ensures.value)
-          (told c.in-ok-layout.layout c.in-err-second.ensures c.slot-in-2.ensures.value) refl;
+          ∙ whole c.args.row.servers (number_of c.args.key) c.args.index c.args.fragment.now c.in_ok-layout.layout c.in_ok-layout.ensures
+          (told c.in_ok-layout.layout c.in_ok-first.ensures c.slot_in.ensures.value)
+          (told c.in_ok-layout.layout c.in_err-second.ensures c.slot_in-2.ensures.value) refl;
       reads_back = reads_back;
       one_form = one_form;
       older = older_slots;
       other_layouts = other_layouts;
     }
 
-pub returns-in-err-third : goal.returns-in-err-third
-returns-in-err-third c =
-    let e = err_from_is_err_and c.from-residual-in-err-third.result c.from-residual-in-err-third.ensures.1 in
+pub returns-in_err-third : goal.returns-in_err-third
+returns-in_err-third c =
+    let e = err_from_is_err_and c.from_residual-in_err-third.result c.from_residual-in_err-third.ensures.1 in
     record {
       answer =
           e.1 ∙ ap Err e.2
-          ∙ whole c.args.row.servers (number_of c.args.key) c.args.index c.args.fragment.now c.in-ok-layout.layout c.in-ok-layout.ensures
-          (told c.in-ok-layout.layout c.in-ok-first.ensures c.slot-in.ensures.value)
-          (told c.in-ok-layout.layout c.in-ok-second.ensures c.slot-in-2.ensures.value)
-          (told c.in-ok-layout.layout c.in-err-third.ensures c.slot-in-3.ensures.value);
+          ∙ whole c.args.row.servers (number_of c.args.key) c.args.index c.args.fragment.now c.in_ok-layout.layout c.in_ok-layout.ensures
+          (told c.in_ok-layout.layout c.in_ok-first.ensures c.slot_in.ensures.value)
+          (told c.in_ok-layout.layout c.in_ok-second.ensures c.slot_in-2.ensures.value)
+          (told c.in_ok-layout.layout c.in_err-third.ensures c.slot_in-3.ensures.value);
       reads_back = reads_back;
       one_form = one_form;
       older = older_slots;
@@ -91,10 +91,10 @@ pub returns : goal.returns
 returns c =
     record {
       answer =
-          whole c.args.row.servers (number_of c.args.key) c.args.index c.args.fragment.now c.in-ok-layout.layout c.in-ok-layout.ensures
-          (told c.in-ok-layout.layout c.in-ok-first.ensures c.slot-in.ensures.value)
-          (told c.in-ok-layout.layout c.in-ok-second.ensures c.slot-in-2.ensures.value)
-          (told c.in-ok-layout.layout c.in-ok-third.ensures c.slot-in-3.ensures.value);
+          whole c.args.row.servers (number_of c.args.key) c.args.index c.args.fragment.now c.in_ok-layout.layout c.in_ok-layout.ensures
+          (told c.in_ok-layout.layout c.in_ok-first.ensures c.slot_in.ensures.value)
+          (told c.in_ok-layout.layout c.in_ok-second.ensures c.slot_in-2.ensures.value)
+          (told c.in_ok-layout.layout c.in_ok-third.ensures c.slot_in-3.ensures.value);
       reads_back = reads_back;
       one_form = one_form;
       older = older_slots;

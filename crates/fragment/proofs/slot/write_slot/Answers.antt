@@ -12,14 +12,14 @@ whole d out front back block n p q e =
 
 pub returns-in-Write : goal.returns-in-Write
 returns-in-Write c =
-    let q : length c.copy-from-slice-in-Write.new.self ≡ 128 = search rules in
-    whole c.args.delta.now c.args.out.now c.copy-from-slice.new.self c.copy-from-slice-in-Write.new.self c.args.block.now c.requires
-    (c.copy-from-slice.ensures.after ∙ c.delta-bytes-front.ensures) q
-    (c.copy-from-slice-in-Write.ensures.after ∙ sym (ap (λ k. content_of k c.args.block.now) c.in-Write.is))
+    let q : length c.copy_from_slice-in-Write.new.self ≡ 128 = search rules in
+    whole c.args.delta.now c.args.out.now c.copy_from_slice.new.self c.copy_from_slice-in-Write.new.self c.args.block.now c.requires
+    (c.copy_from_slice.ensures.after ∙ c.delta_bytes-front.ensures) q
+    (c.copy_from_slice-in-Write.ensures.after ∙ sym (ap (λ k. content_of k c.args.block.now) c.in-Write.is))
 
 pub returns-in-Trim : goal.returns-in-Trim
 returns-in-Trim c =
     let q : length c.fill.new.self ≡ 128 = search rules in
-    whole c.args.delta.now c.args.out.now c.copy-from-slice.new.self c.fill.new.self c.args.block.now c.requires
-    (c.copy-from-slice.ensures.after ∙ c.delta-bytes-front.ensures) q
+    whole c.args.delta.now c.args.out.now c.copy_from_slice.new.self c.fill.new.self c.args.block.now c.requires
+    (c.copy_from_slice.ensures.after ∙ c.delta_bytes-front.ensures) q
     (zeros_long _ 128 c.fill.new.self (c.fill.ensures.after (λ y e. e)) q ∙ sym (ap (λ k. content_of k c.args.block.now) c.in-Trim.is))

@@ -10,7 +10,7 @@ loop-j-init c = sym (closing_none c.args.area.now c.args.i)
 
 pub loop-j-preserved : goal.loop-j-preserved
 loop-j-preserved c =
-    c.move-down.ensures ∙ ap (λ (t : List ℕ). with_record t c.loop-j.j (record_at t (c.loop-j.j + 1))) c.loop-j.invariant
+    c.move_down.ensures ∙ ap (λ (t : List ℕ). with_record t c.loop-j.j (record_at t (c.loop-j.j + 1))) c.loop-j.invariant
     ∙ closing_more c.args.area.now c.args.i c.loop-j.j (omega arith) (omega arith)
 
 pub returns : goal.returns

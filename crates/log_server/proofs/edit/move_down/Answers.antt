@@ -5,5 +5,5 @@ use Rattle.log_server.proofs.edit.move_down.Goals as goal
 
 pub returns : goal.returns
 returns c =
-    put_one c.args.i _ c.args.area.now c.copy-from-slice-2.new.self (record_at c.args.area.now (c.args.i + 1)) (omega arith)
-    (c.copy-from-slice-2.ensures.after ∙ c.copy-from-slice.ensures.after ∙ c.record-at.ensures.is)
+    put_one c.args.i _ c.args.area.now c.copy_from_slice-2.new.self (record_at c.args.area.now (c.args.i + 1)) (omega arith)
+    (c.copy_from_slice-2.ensures.after ∙ c.copy_from_slice.ensures.after ∙ c.record_at.ensures.is)

@@ -5,4 +5,4 @@ use Rattle.log_server.proofs.edit.put_record.Goals as goal
 
 pub returns : goal.returns
 returns c =
-    put_one c.args.i _ c.args.area.now c.write-record.new.bytes (held_record c.args.key.client c.args.key.stripe c.args.fragment.now) (omega arith) c.write-record.ensures
+    put_one c.args.i _ c.args.area.now c.write_record.new.bytes (held_record c.args.key.client c.args.key.stripe c.args.fragment.now) (omega arith) c.write_record.ensures

@@ -12,5 +12,5 @@ returns c =
     let xs = c.args.area.now in
     let after = c.args.i + 1 in
     let later = pieces_rest after (c.args.held - after) c.args.held (record_length * after) xs (omega arith) (omega arith) in
-    c.is-some.ensures ∙ ap is_some c.find.ensures ∙ sym (has_place (pieces (c.args.held - after) (take (length xs - record_length * after) (drop (record_length * after) xs))) c.args.key)
+    c.is_some.ensures ∙ ap is_some c.find.ensures ∙ sym (has_place (pieces (c.args.held - after) (take (length xs - record_length * after) (drop (record_length * after) xs))) c.args.key)
     ∙ ap (λ (t : List Piece). has piece_key t c.args.key) later

@@ -6,8 +6,8 @@ use Rattle.log_server.specs.Area.{front}
 use Rattle.log_server.proofs.Cuts.{records_from, length_records}
 use Rattle.log_server.proofs.walk.count_held.Goals as goal
 
-pub returns-then-not-is-held : goal.returns-then-not-is-held
-returns-then-not-is-held c =
+pub returns-then-not-is_held : goal.returns-then-not-is_held
+returns-then-not-is_held c =
     let e = ap (λ (t : List (List ℕ)). length (front t)) (records_from c.loop-i.i c.args.n c.args.area.now c.loop-i-test.true) in grind (arith, nat_tests)
 
 pub loop-i-preserved : goal.loop-i-preserved

@@ -9,11 +9,11 @@ use Rattle.log_server.proofs.Cuts.{pieces_from, length_pieces}
 use Rattle.log_server.proofs.Places.{place_here, place_on}
 use Rattle.log_server.proofs.walk.find.Goals as goal
 
-pub returns-then-key-at-key : goal.returns-then-key-at-key
-returns-then-key-at-key c =
+pub returns-then-key_at-key : goal.returns-then-key_at-key
+returns-then-key_at-key c =
     let ps : List Piece = pieces c.args.held c.args.area.now in
     place_here (piece_in (record_at c.args.area.now c.loop-i.i)) (drop c.loop-i.i ps) (drop (c.loop-i.i + 1) ps) c.args.key c.loop-i.i
-    (pieces_from c.loop-i.i c.args.held c.args.area.now c.loop-i-test.true) (sym c.key-at.ensures ∙ c.if-key-at-key.true)
+    (pieces_from c.loop-i.i c.args.held c.args.area.now c.loop-i-test.true) (sym c.key_at.ensures ∙ c.if-key_at-key.true)
     ∙ sym c.loop-i.invariant
 
 pub loop-i-preserved : goal.loop-i-preserved
@@ -21,7 +21,7 @@ loop-i-preserved c =
     let ps : List Piece = pieces c.args.held c.args.area.now in
     c.loop-i.invariant
     ∙ place_on (piece_in (record_at c.args.area.now c.loop-i.i)) (drop c.loop-i.i ps) (drop (c.loop-i.i + 1) ps) c.args.key c.loop-i.i
-    (pieces_from c.loop-i.i c.args.held c.args.area.now c.loop-i-test.true) (λ e. c.if-key-at-key.false (c.key-at.ensures ∙ e))
+    (pieces_from c.loop-i.i c.args.held c.args.area.now c.loop-i-test.true) (λ e. c.if-key_at-key.false (c.key_at.ensures ∙ e))
 
 pub returns : goal.returns
 returns c =

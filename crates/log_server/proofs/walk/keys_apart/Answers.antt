@@ -19,16 +19,16 @@ loop-i-preserved-then-key-least c =
     let xs = c.args.area.now in
     let i : ℕ = c.loop-i.i in
     let ps : List Piece = pieces c.args.held xs in
-    apart_more (piece_in (record_at xs (i - 1))) (drop i ps) (drop (i - 1) ps) c.loop-i.least c.key-at-key.result (pieces_back i c.args.held xs (omega arith) (omega arith))
+    apart_more (piece_in (record_at xs (i - 1))) (drop i ps) (drop (i - 1) ps) c.loop-i.least c.key_at-key.result (pieces_back i c.args.held xs (omega arith) (omega arith))
     c.loop-i.invariant.0 c.loop-i.invariant.1 (c.loop-i.invariant.1 _ (omega arith)) (omega arith) (omega arith)
 
-pub returns-then-comes-again : goal.returns-then-comes-again
-returns-then-comes-again c =
+pub returns-then-comes_again : goal.returns-then-comes_again
+returns-then-comes_again c =
     let xs = c.args.area.now in
     let i : ℕ = c.loop-i.i - 1 in
     let ps : List Piece = pieces c.args.held xs in
     apart_fails i (piece_in (record_at xs i)) (drop (i + 1) ps) ps (pieces_from i c.args.held xs (omega arith))
-    (sym (ap (has piece_key (drop (i + 1) ps)) c.key-at-key.ensures) ∙ sym c.comes-again.ensures ∙ c.if-comes-again.true)
+    (sym (ap (has piece_key (drop (i + 1) ps)) c.key_at-key.ensures) ∙ sym c.comes_again.ensures ∙ c.if-comes_again.true)
 
 pub loop-i-preserved : goal.loop-i-preserved
 loop-i-preserved c =
@@ -38,5 +38,5 @@ loop-i-preserved c =
     let e : i - 1 + 1 ≡ i = omega arith in
     apart_more (piece_in (record_at xs (i - 1))) (drop i ps) (drop (i - 1) ps) c.loop-i.least c.loop-i.least (pieces_back i c.args.held xs (omega arith) (omega arith))
     c.loop-i.invariant.0 c.loop-i.invariant.1
-    (ap (λ (k : ℕ). has piece_key (drop k ps) (piece_key (piece_in (record_at xs (i - 1))))) (sym e) ∙ sym (ap (has piece_key (drop (i - 1 + 1) ps)) c.key-at-key.ensures) ∙ sym c.comes-again.ensures ∙ c.if-comes-again.false)
+    (ap (λ (k : ℕ). has piece_key (drop k ps) (piece_key (piece_in (record_at xs (i - 1))))) (sym e) ∙ sym (ap (has piece_key (drop (i - 1 + 1) ps)) c.key_at-key.ensures) ∙ sym c.comes_again.ensures ∙ c.if-comes_again.false)
     (omega arith) (omega arith)

@@ -11,7 +11,7 @@ pub loop-i-preserved : goal.loop-i-preserved
 loop-i-preserved c =
     let from = c.args.from in
     let later : List Piece = drop (c.loop-i.i + 1) (pieces c.args.held c.args.area.now) in
-    ap (λ (b : Option ℕ). nearest from b later) (c.nearer-best.ensures ∙ ap (λ (k : ℕ). nearer from k c.loop-i.best) c.key-at-key.ensures)
+    ap (λ (b : Option ℕ). nearest from b later) (c.nearer-best.ensures ∙ ap (λ (k : ℕ). nearer from k c.loop-i.best) c.key_at-key.ensures)
     ∙ sym (ap (nearest from c.loop-i.best) (pieces_from c.loop-i.i c.args.held c.args.area.now c.loop-i-test.true))
     ∙ c.loop-i.invariant
 

@@ -11,7 +11,7 @@ loop-column-preserved c =
     let fs : List (List ℕ) = c.args.fragments.now in
     let long = length-xor_all fs (All-from_get_or Long fs [] c.told-fragments) in
     let next : (c.loop-column.column + 1) * 64 ≡ c.loop-column.column * 64 + 64 = omega arith in
-    rw (next, c.column-sum.ensures)
+    rw (next, c.column_sum.ensures)
     (take_more_chunk 64 (c.loop-column.column * 64) c.loop-column.out (xor_all fs) (omega arith) (omega arith) c.loop-column.invariant)
 
 pub returns : goal.returns

@@ -34,13 +34,13 @@ loop-other-preserved-then-other-server g c =
     let e = sym (others_skip l.other c.servers-other-end.result c.args.server c.loop-other-test.true c.if-other-server.true) in
     (l.invariant.0, l.invariant.1, ap (fetches_answer rows k) e ∙ l.invariant.2, ap (λ ss. xored l.sum (put_together rows k ss)) e ∙ l.invariant.3, l.invariant.4)
 
-pub returns-in-err-fetch : goal.returns-in-err-fetch
-returns-in-err-fetch g c =
+pub returns-in_err-fetch : goal.returns-in_err-fetch
+returns-in_err-fetch g c =
     let rows = g.R.ServerRow.meanings c.args.boxes.now in
     let k = number_of c.args.key in
     let l = c.loop-other in
-    let p = err_from_is_err_and c.from-residual.result c.from-residual.ensures.1 in
-    let a = ap (λ r. held_answer (at r l.other) k) (sym l.invariant.0) ∙ sym c.fetch.ensures.answer ∙ c.in-err-fetch.was in
+    let p = err_from_is_err_and c.from_residual.result c.from_residual.ensures.1 in
+    let a = ap (λ r. held_answer (at r l.other) k) (sym l.invariant.0) ∙ sym c.fetch.ensures.answer ∙ c.in_err-fetch.was in
     record {
       answer =
           p.1
@@ -48,7 +48,7 @@ returns-in-err-fetch g c =
           ∙ fetch_stops rows k l.other c.servers-other-end.result c.args.server c.loop-other-test.true c.if-other-server.false _ a
           ∙ l.invariant.2
           ∙ ap (λ n. fetches_answer rows k (others n c.args.server)) c.servers-other-end.ensures;
-      out = MatchResult-from_err c.from-residual.result _ _ c.from-residual.ensures.0 (λ _. refl);
+      out = MatchResult-from_err c.from_residual.result _ _ c.from_residual.ensures.0 (λ _. refl);
       after = c.fetch.ensures.after ∙ l.invariant.0;
       coherent = λ s h. c.fetch.ensures.coherent s (l.invariant.1 s h);
     }
@@ -60,15 +60,15 @@ loop-other-preserved g c =
     let l = c.loop-other in
     let n = c.servers-other-end.result in
     let s = c.args.server in
-    let a = ap (λ r. held_answer (at r l.other) k) (sym l.invariant.0) ∙ sym c.fetch.ensures.answer ∙ c.in-ok-fetch.was in
+    let a = ap (λ r. held_answer (at r l.other) k) (sym l.invariant.0) ∙ sym c.fetch.ensures.answer ∙ c.in_ok-fetch.was in
     let e = c.fetch.ensures.copied ∙ ap (λ r. fetched (at r l.other) k l.piece) l.invariant.0 in (
       c.fetch.ensures.after ∙ l.invariant.0,
       λ t h. c.fetch.ensures.coherent t (l.invariant.1 t h),
       fetch_goes rows k l.other n s c.loop-other-test.true c.if-other-server.false _ a ∙ l.invariant.2,
-      ap (λ t. xored t (put_together rows k (leaving s (range_with_len (l.other + 1) (n - (l.other + 1)))))) c.xor-into.ensures
+      ap (λ t. xored t (put_together rows k (leaving s (range_with_len (l.other + 1) (n - (l.other + 1)))))) c.xor_into.ensures
           ∙ sum_goes rows k l.other n s c.loop-other-test.true c.if-other-server.false _ a l.sum c.fetch.new.out l.piece e
           ∙ l.invariant.3,
-      c.xor-into.array_long,
+      c.xor_into.array_long,
     )
 
 pub returns : goal.returns

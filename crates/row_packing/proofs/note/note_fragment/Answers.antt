@@ -5,9 +5,9 @@ use Rattle.row_packing.proofs.note.note_fragment.Goals as goal
 
 pub returns : goal.returns
 returns c =
-    IfOk-weaker c.note-slot-3.result _ _
+    IfOk-weaker c.note_slot-3.result _ _
     (λ _ third.
-    fragment_noted c.args.fragment.now c.in-ok-slots.slots c.args.row.servers (number_of c.args.key) c.args.index c.in-ok-slots.ensures.answer
-    c.args.newest.now c.note-slot.new.newest c.note-slot-2.new.newest c.note-slot-3.new.newest
-    c.in-ok-note-slot.ensures c.in-ok-note-slot-2.ensures third)
-    c.note-slot-3.ensures
+    fragment_noted c.args.fragment.now c.in_ok-slots.slots c.args.row.servers (number_of c.args.key) c.args.index c.in_ok-slots.ensures.answer
+    c.args.newest.now c.note_slot.new.newest c.note_slot-2.new.newest c.note_slot-3.new.newest
+    c.in_ok-note_slot.ensures c.in_ok-note_slot-2.ensures third)
+    c.note_slot-3.ensures

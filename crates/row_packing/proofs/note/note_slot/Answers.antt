@@ -5,4 +5,4 @@ use Rattle.row_packing.proofs.note.note_slot.Goals as goal
 
 pub returns : goal.returns
 returns c =
-    slot_noted _ _ c.in-Some.delta _ _ _ c.in-Some.is (c.kpa-in-kpa.ensures ∙ ap kpa_in c.block-at.ensures) c.in-ok-note.ensures.noted
+    slot_noted _ _ c.in-Some.delta _ _ _ c.in-Some.is (c.kpa_in-kpa.ensures ∙ ap kpa_in c.block_at.ensures) c.in_ok-note.ensures.noted

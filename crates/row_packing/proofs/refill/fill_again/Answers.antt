@@ -18,10 +18,10 @@ returns g c =
     let same : OthersStay s was wiped = λ t h. ap (λ r. at r t) w ∙ set_others was s (wipe_after (at was s)) t h in
     let empty = ap (λ r. at r s) w ∙ at_set wipe_after refl was s in
     record {
-      others = λ t h. c.restore-all.ensures.others t h ∙ same t h;
+      others = λ t h. c.restore_all.ensures.others t h ∙ same t h;
       here =
-          IfOk-weaker c.restore-all.result _ _
+          IfOk-weaker c.restore_all.result _ _
           (λ _ e. e ∙ refilled_same n s c.args.client was wiped same js (at wiped s) ∙ ap (refilled was n s c.args.client js) empty)
-          c.restore-all.ensures.here;
-      coherent = λ t h. c.restore-all.ensures.coherent t (c.wipe.ensures.coherent t h);
+          c.restore_all.ensures.here;
+      coherent = λ t h. c.restore_all.ensures.coherent t (c.wipe.ensures.coherent t h);
     }

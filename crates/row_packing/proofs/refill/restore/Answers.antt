@@ -8,11 +8,11 @@ use Rattle.row_packing.proofs.refill.restore.Goals as goal
 pub returns : goal.returns
 returns g c =
     let was = g.R.ServerRow.meanings c.args.boxes.now in
-    let between = g.R.ServerRow.meanings c.put-together.new.boxes in
+    let between = g.R.ServerRow.meanings c.put_together.new.boxes in
     let s = c.args.server in
     let k = number_of c.args.key in
-    let bytes = c.put-together.new.out in
-    let stays = c.put-together.ensures.after in
+    let bytes = c.put_together.new.out in
+    let stays = c.put_together.ensures.after in
     let u = c.store.ensures in
     record {
       others = λ t h. ap (λ r. at r t) u.after ∙ set_others between s (store_after (at between s) k bytes) t h ∙ ap (λ r. at r t) stays;
@@ -20,6 +20,6 @@ returns g c =
           ap (λ r. at r s) u.after
           ∙ at_set (λ m. store_after m k bytes) refl between s
           ∙ ap (λ r. store_after (at r s) k bytes) stays
-          ∙ ap (store_after (at was s) k) c.in-ok-put-together.ensures.out);
-      coherent = λ t h. u.coherent t (c.put-together.ensures.coherent t h);
+          ∙ ap (store_after (at was s) k) c.in_ok-put_together.ensures.out);
+      coherent = λ t h. u.coherent t (c.put_together.ensures.coherent t h);
     }

@@ -5,21 +5,21 @@ use Rattle.row_packing.proofs.Counts.{left_none}
 use Rattle.row_packing.proofs.Stores.{all_stored, goes_on, stops}
 use Rattle.row_packing.proofs.store.store_stripe.Goals as goal
 
-pub returns-in-err-store-on : goal.returns-in-err-store-on
-returns-in-err-store-on g c =
+pub returns-in_err-store_on : goal.returns-in_err-store_on
+returns-in_err-store_on g c =
     let image = c.args.image.now in
     let was = g.R.ServerRow.meanings c.args.boxes.now in
     let e = ap (λ r. r.servers) c.row.ensures in
     let h : c.loop-server.server < image.row.servers = omega arith in
-    let p = err_from_is_err_and c.from-residual.result c.from-residual.ensures.1 in
-    let t = stops (store_on image) c.loop-server.server image.row.servers h _ _ c.store-on.ensures.after _ (sym c.store-on.ensures.answer ∙ c.in-err-store-on.was) in
+    let p = err_from_is_err_and c.from_residual.result c.from_residual.ensures.1 in
+    let t = stops (store_on image) c.loop-server.server image.row.servers h _ _ c.store_on.ensures.after _ (sym c.store_on.ensures.answer ∙ c.in_err-store_on.was) in
     let a = p.1 ∙ ap Err p.2 ∙ t.0 ∙ c.loop-server.invariant.0 in
     let b = t.1 ∙ c.loop-server.invariant.1 in
     record {
       answer = a;
       after = b;
       whole = λ ok. b ∙ all_stored (stripe_stores image) was (sym a ∙ ok);
-      coherent = λ s k. c.store-on.ensures.coherent s (c.loop-server.invariant.2 s k);
+      coherent = λ s k. c.store_on.ensures.coherent s (c.loop-server.invariant.2 s k);
     }
 
 pub loop-server-preserved : goal.loop-server-preserved
@@ -27,8 +27,8 @@ loop-server-preserved g c =
     let image = c.args.image.now in
     let e = ap (λ r. r.servers) c.row.ensures in
     let h : c.loop-server.server < image.row.servers = omega arith in
-    let t = goes_on (store_on image) c.loop-server.server image.row.servers h _ _ c.store-on.ensures.after _ (sym c.store-on.ensures.answer ∙ c.in-ok-store-on.was) in
-    (t.0 ∙ c.loop-server.invariant.0, t.1 ∙ c.loop-server.invariant.1, λ s k. c.store-on.ensures.coherent s (c.loop-server.invariant.2 s k))
+    let t = goes_on (store_on image) c.loop-server.server image.row.servers h _ _ c.store_on.ensures.after _ (sym c.store_on.ensures.answer ∙ c.in_ok-store_on.was) in
+    (t.0 ∙ c.loop-server.invariant.0, t.1 ∙ c.loop-server.invariant.1, λ s k. c.store_on.ensures.coherent s (c.loop-server.invariant.2 s k))
 
 pub returns : goal.returns
 returns g c =

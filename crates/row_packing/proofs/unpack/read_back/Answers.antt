@@ -14,9 +14,9 @@ loop-stripe-preserved g c =
     let same =
     ap (λ r. stripe_readings r n c.args.missing (number_of key)) l.invariant.0
     ∙ ap (stripe_readings rows n c.args.missing) number in
-    let noted : Appended l.newest c.note-stripe.new.newest (stripe_readings rows n c.args.missing (key_number c.args.client l.stripe)) =
-    subst (λ (es : List Entry). Appended l.newest c.note-stripe.new.newest es) same c.in-ok-note-stripe.ensures.noted in (
-      c.note-stripe.ensures.after ∙ l.invariant.0,
-      λ s b. c.note-stripe.ensures.coherent s (l.invariant.1 s b),
-      λ q. notes_more (λ j. stripe_readings rows n c.args.missing (key_number c.args.client j)) l.stripe c.args.stripes l.newest c.note-stripe.new.newest c.loop-stripe-test.true noted q ∙ l.invariant.2 q,
+    let noted : Appended l.newest c.note_stripe.new.newest (stripe_readings rows n c.args.missing (key_number c.args.client l.stripe)) =
+    subst (λ (es : List Entry). Appended l.newest c.note_stripe.new.newest es) same c.in_ok-note_stripe.ensures.noted in (
+      c.note_stripe.ensures.after ∙ l.invariant.0,
+      λ s b. c.note_stripe.ensures.coherent s (l.invariant.1 s b),
+      λ q. notes_more (λ j. stripe_readings rows n c.args.missing (key_number c.args.client j)) l.stripe c.args.stripes l.newest c.note_stripe.new.newest c.loop-stripe-test.true noted q ∙ l.invariant.2 q,
     )

@@ -14,7 +14,7 @@ loop-call-preserved g c =
     let h = c.loop-call-test.true in
     let e = c.call-item.is in
     let inv = c.loop-call.invariant in
-    let u = c.agree-on-same.ensures in (
+    let u = c.agree_on-same.ensures in (
       u.first ∙ after_more cs i call h e m _ inv.0,
       u.second ∙ after_more cs i call h e n _ inv.1,
       agree_more cs i call h e m n _ _ _ _ inv.0 inv.1 inv.2 u.answer,

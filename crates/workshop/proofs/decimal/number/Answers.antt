@@ -4,14 +4,14 @@ use Rattle.workshop.specs.Lines.{read_on}
 use Rattle.workshop.proofs.Digits.{digit_here, too_large}
 use Rattle.workshop.proofs.decimal.number.Goals as goal
 
-pub overflow-sub-c : goal.overflow-sub-c
-overflow-sub-c c = search (rules, digit_here)
+pub overflow_sub-c : goal.overflow_sub-c
+overflow_sub-c c = search (rules, digit_here)
 
-pub returns-in-err-checked-mul : goal.returns-in-err-checked-mul
-returns-in-err-checked-mul c = search (rules, too_large c.loop-c.sum c.loop-c.c-index)
+pub returns-in_err-checked_mul : goal.returns-in_err-checked_mul
+returns-in_err-checked_mul c = search (rules, too_large c.loop-c.sum c.loop-c.c-index)
 
-pub returns-in-err-sum : goal.returns-in-err-sum
-returns-in-err-sum c = search (rules, too_large c.loop-c.sum c.loop-c.c-index)
+pub returns-in_err-sum : goal.returns-in_err-sum
+returns-in_err-sum c = search (rules, too_large c.loop-c.sum c.loop-c.c-index)
 
 pub loop-c-preserved : goal.loop-c-preserved
 loop-c-preserved c = search (rules, at_drop_more (read_on c.loop-c.sum) c.args.digits.now c.loop-c.c-index 0)

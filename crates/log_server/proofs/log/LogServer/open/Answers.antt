@@ -3,13 +3,13 @@ use Rattle.log_server.proofs.Areas.{open_counts}
 use Rattle.log_server.proofs.Laws.{area_laws}
 use Rattle.log_server.proofs.log.LogServer.open.Goals as goal
 
-pub invariant-of-result : goal.invariant-of-result
-invariant-of-result c =
+pub invariant_of-result : goal.invariant_of-result
+invariant_of-result c =
     let a = open_counts c.args.area.now c.min-whole.result None c.min-whole.ensures c.in-default.ensures in
     (a.0, (a.1, tt))
 
-pub invariant-of-result-2 : goal.invariant-of-result-2
-invariant-of-result-2 c =
+pub invariant_of-result-2 : goal.invariant_of-result-2
+invariant_of-result-2 c =
     let a = open_counts c.args.area.now c.min-whole.result (Some c.in-Some.held) c.min-whole.ensures c.in-Some.ensures in
     (c.min-whole.ensures ∙ a.0, (a.1, tt))
 

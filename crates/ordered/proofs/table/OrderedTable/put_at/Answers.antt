@@ -13,7 +13,7 @@ returns g c =
     let at = c.args.at in
     let e = c.args.e in
     let front =
-    front_inserted t.len t.slots.now c.count-count.result at c.rotate-right.new.self c.count-count.ensures.items e (omega arith) (omega arith) c.rotate-right.ensures.after in
+    front_inserted t.len t.slots.now c.count-count.result at c.rotate_right.new.self c.count-count.ensures.items e (omega arith) (omega arith) c.rotate_right.ensures.after in
     record {
       items = λ s. front ∙ inserted_sought n (items t) e at s;
       rises = λ r s. ap (rises_from n 0) (front ∙ inserted_sought n (items t) e at s) ∙ rises_put n (items t) e r;

@@ -10,8 +10,8 @@ use Rattle.ordered.proofs.table.OrderedTable.set_at.Goals as goal
 pub bounds-self-at : goal.bounds-self-at
 bounds-self-at g c = let fits = front_fits c.args.self.now.len c.args.self.now.slots.now in omega arith
 
-pub offset-bounds-self-at : goal.offset-bounds-self-at
-offset-bounds-self-at g c = let within = bounds-self-at g c in search rules
+pub offset_bounds-self-at : goal.offset_bounds-self-at
+offset_bounds-self-at g c = let within = bounds-self-at g c in search rules
 
 pub returns : goal.returns
 returns g c =

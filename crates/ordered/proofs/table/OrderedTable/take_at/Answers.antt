@@ -12,7 +12,7 @@ returns g c =
     let t = c.args.self.now in
     let at = c.args.at in
     let front =
-    front_removed t.len t.slots.now c.count-count.result at c.rotate-left.new.self c.count-count.ensures.items (omega arith) (omega arith) c.rotate-left.ensures.after in
+    front_removed t.len t.slots.now c.count-count.result at c.rotate_left.new.self c.count-count.ensures.items (omega arith) (omega arith) c.rotate_left.ensures.after in
     record {
       items = λ k r s. front ∙ removed_sought n (items t) k at r s;
       rises = λ k r s. ap (rises_from n 0) (front ∙ removed_sought n (items t) k at r s) ∙ rises_without n (items t) k r;

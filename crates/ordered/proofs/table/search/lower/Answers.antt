@@ -5,8 +5,8 @@ use Rattle.ordered.proofs.table.search.lower.Goals as goal
 pub loop-low-init : goal.loop-low-init
 loop-low-init g c = (omega arith, omega arith, λ r. (omega arith, place_within g.E.Keyed.number _ _))
 
-pub loop-low-preserved-then-key-number-key : goal.loop-low-preserved-then-key-number-key
-loop-low-preserved-then-key-number-key g c = (
+pub loop-low-preserved-then-key_number-key : goal.loop-low-preserved-then-key_number-key
+loop-low-preserved-then-key_number-key g c = (
   omega arith,
   omega arith,
   λ r. (place_after g.E.Keyed.number c.args.list.now c.args.key _ c.index-list-mid.result r (omega arith) c.index-list-mid.is (omega arith), (c.loop-low.invariant.2 r).1),

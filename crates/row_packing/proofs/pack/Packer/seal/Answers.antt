@@ -16,12 +16,12 @@ returns g c =
           (record {
             image = c.new-image.result;
             made = image_of p.buffer (key_number 1 p.stripes) c.new-image.result c.in-Some.key image.row image.key number image.each;
-            stored = c.store-stripe.ensures.whole c.in-ok-store-stripe.was;
+            stored = c.store_stripe.ensures.whole c.in_ok-store_stripe.was;
             stripes = search rules;
             version = search rules;
             row = search rules;
             buffer = c.new-self.ensures.row;
             slots = c.new-self.ensures.slots;
           });
-      coherent = c.store-stripe.ensures.coherent;
+      coherent = c.store_stripe.ensures.coherent;
     }

@@ -35,7 +35,7 @@ returns c =
     let k : m < length xs = omega arith in
     record {
       bytes =
-          blocked c.block-in.result (m % 3) (bytes_at b.slots.fragments m) xs m h k
-          (bytes_formed b.slots.fragments b.filled m b.formed (all_fair xs b.fair) (omega arith) (omega arith)) c.block-in.ensures.value;
-      len = long c.block-in.result (m % 3) xs m h k c.block-in.ensures.len;
+          blocked c.block_in.result (m % 3) (bytes_at b.slots.fragments m) xs m h k
+          (bytes_formed b.slots.fragments b.filled m b.formed (all_fair xs b.fair) (omega arith) (omega arith)) c.block_in.ensures.value;
+      len = long c.block_in.result (m % 3) xs m h k c.block_in.ensures.len;
     }

@@ -12,7 +12,7 @@ returns c =
     let k = number_of c.args.key in
     let xs = slots_in c.args.self.now in
     let written =
-    c.set-head.ensures ∙ headed n k c.args.index xs c.args.self.now.slots.fragments c.args.self.now.formed (omega arith) in
+    c.set_head.ensures ∙ headed n k c.args.index xs c.args.self.now.slots.fragments c.args.self.now.formed (omega arith) in
     record {
       known = search rules;
       after = written;

@@ -34,9 +34,9 @@ loop-slot-preserved c =
     let b = c.args.self.now in
     let i = c.loop-slot.slot in
     let l = length_slots c.args.self.now in
-    ap (λ ds. set ds i c.unwrap-or.result) c.loop-slot.invariant
-    ∙ one_more (slots_in b) i c.unwrap-or.result (omega arith) (omega arith)
-    (c.unwrap-or.ensures ∙ ap (λ r. result_unwrap_or r None) c.read-delta.ensures
+    ap (λ ds. set ds i c.unwrap_or.result) c.loop-slot.invariant
+    ∙ one_more (slots_in b) i c.unwrap_or.result (omega arith) (omega arith)
+    (c.unwrap_or.ensures ∙ ap (λ r. result_unwrap_or r None) c.read_delta.ensures
     ∙ ap (λ r. result_unwrap_or (delta_answer r) None) (read_formed b.slots.fragments b.filled i b.formed (all_fair _ b.fair) (omega arith) (omega arith)))
 
 pub returns : goal.returns

@@ -32,21 +32,17 @@ new d block f b m v s l =
       blank = content_blank d.kind block;
     }
 
-pub invariant-of-self : goal.invariant-of-self
-invariant-of-self c =
+pub invariant_of-self : goal.invariant_of-self
+invariant_of-self c =
     let few : c.args.self.now.filled < 21 = omega arith in
     let x = new c.args.delta c.args.block.now (omega arith) (omega arith) (omega arith) (omega arith) (omega arith) (omega arith) in
     let old = all_fair _ c.args.self.now.fair in
-    let grown = slots_grown _ _ c.args.self.now.filled _ few c.args.self.now.formed old x c.put.ensures in (
-      omega arith,
-      (
-        still_formed _ _ c.args.self.now.filled _ few c.args.self.now.formed old x c.put.ensures,
-        (
-          ap (list_all is_fair) grown ∙ fair_all _ (still_fair _ _ c.args.self.now.filled _ few c.args.self.now.formed old x c.put.ensures),
-          tt,
-        ),
-      ),
-    )
+    let grown = slots_grown _ _ c.args.self.now.filled _ few c.args.self.now.formed old x c.put.ensures in
+    record {
+      few = omega arith;
+      formed = still_formed _ _ c.args.self.now.filled _ few c.args.self.now.formed old x c.put.ensures;
+      fair = ap (list_all is_fair) grown ∙ fair_all _ (still_fair _ _ c.args.self.now.filled _ few c.args.self.now.formed old x c.put.ensures);
+    }
 
 pub returns-then-delta-eq0 : goal.returns-then-delta-eq0
 returns-then-delta-eq0 c =

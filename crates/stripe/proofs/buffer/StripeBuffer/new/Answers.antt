@@ -2,6 +2,6 @@ use Rattle.std.proofs.Common.{refl, arith}
 use Rattle.stripe.specs.Contents.{open_fragments}
 use Rattle.stripe.proofs.buffer.StripeBuffer.new.Goals as goal
 
-pub invariant-of-result : goal.invariant-of-result
+pub invariant_of-result : goal.invariant_of-result
 unfolding open_fragments
-invariant-of-result c = (omega arith, (refl, (refl, tt)))
+invariant_of-result c = record { few = omega arith; formed = refl; fair = refl }

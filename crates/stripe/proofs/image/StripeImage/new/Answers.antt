@@ -29,12 +29,12 @@ pub loop-index-preserved : goal.loop-index-preserved
 loop-index-preserved c =
     let long : length c.loop-index.pieces ≡ 8 = c.loop-index.invariant.0 in
     let same : c.args.buffer.now.row.servers ≡ c.row-row.result.servers = ap (λ (r : RowLength). r.servers) (sym c.row-row.ensures) in
-    let there : c.data-fragment.result ≡ true = c.data-fragment.ensures.known ∙ lt-ltb _ _ (omega arith) in (
+    let there : c.data_fragment.result ≡ true = c.data_fragment.ensures.known ∙ lt-ltb _ _ (omega arith) in (
       length-set c.loop-index.pieces (c.loop-index.index + 1) _ ∙ long,
       below_more _ _
           (λ i h. get_or-set_other c.loop-index.pieces (c.loop-index.index + 1) (i + 1) _ [] (λ e. omega arith) ∙ c.loop-index.invariant.1 i h)
           (get_or-set_same c.loop-index.pieces (c.loop-index.index + 1) _ [] (omega arith)
-          ∙ c.data-fragment.ensures.after ∙ taken _ _ _ there
+          ∙ c.data_fragment.ensures.after ∙ taken _ _ _ there
           ∙ ap (λ n. data_bytes n (number_of c.args.key) (slots_in c.args.buffer.now) c.loop-index.index) same),
     )
 
@@ -44,14 +44,14 @@ returns c =
     let k : ℕ = number_of c.args.key in
     let s : c.row-row.result.servers ≡ suc (c.row-row.result.servers - 1) = omega arith in
     let front =
-    fronted (c.row-row.result.servers - 1) c.loop-index.pieces (data_bytes n k (slots_in c.args.buffer.now)) c.xor-all.new.out (omega (arith, c.loop-index.invariant.0)) (λ i h. c.loop-index.invariant.1 i (omega arith)) (cc c.xor-all.ensures.sum) in
+    fronted (c.row-row.result.servers - 1) c.loop-index.pieces (data_bytes n k (slots_in c.args.buffer.now)) c.xor_all.new.out (omega (arith, c.loop-index.invariant.0)) (λ i h. c.loop-index.invariant.1 i (omega arith)) (cc c.xor_all.ensures.sum) in
     record {
       row = search rules;
       key = refl;
       each =
           λ u h.
           let b : steps_on n k u < suc (c.row-row.result.servers - 1) = omega (arith, steps_below c.row-row.result.servers k (omega arith) u) in
-          sym (get_or-take (suc (c.row-row.result.servers - 1)) (set c.loop-index.pieces 0 c.xor-all.new.out) (steps_on n k u) [] b)
+          sym (get_or-take (suc (c.row-row.result.servers - 1)) (set c.loop-index.pieces 0 c.xor_all.new.out) (steps_on n k u) [] b)
           ∙ ap (λ t. get_or t (steps_on n k u) []) front;
       missing = missing_is_the_others;
     }

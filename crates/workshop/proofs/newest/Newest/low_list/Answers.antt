@@ -6,7 +6,7 @@ use Rattle.workshop.proofs.newest.Newest.low_list.Goals as goal
 pub loop-tyre-preserved-in-Continue· : goal.loop-tyre-preserved-in-Continue·
 loop-tyre-preserved-in-Continue· c =
     let next = pairs-rest-more c.loop-tyre.tyre-iterator c.next.new.self c.next.result (c.in-Some.tyre, c.in-Some.noted) c.in-Some.is c.next.ensures.steps in
-    one_more (vec_items c.loop-tyre.list) (vec_items c.push.new.self) _ _ _ _ _ c.loop-tyre.invariant next c.if-is-low.ensures c.in-ok-push.ensures.items
+    one_more (vec_items c.loop-tyre.list) (vec_items c.push.new.self) _ _ _ _ _ c.loop-tyre.invariant next c.if-is_low.ensures c.in_ok-push.ensures.items
 
 pub returns : goal.returns
 returns c =

@@ -3,8 +3,8 @@ use Rattle.log_server.proofs.Areas.{area_kept}
 use Rattle.log_server.proofs.Meanings.{free_is}
 use Rattle.log_server.proofs.log.serve.LogServerFragmentServer.free.Goals as goal
 
-pub overflow-sub-result : goal.overflow-sub-result
-overflow-sub-result c = let k = area_kept c.args.self.now.bytes.now in omega arith
+pub overflow_sub-result : goal.overflow_sub-result
+overflow_sub-result c = let k = area_kept c.args.self.now.bytes.now in omega arith
 
 pub overflow-cast-result : goal.overflow-cast-result
 overflow-cast-result c = let k = area_kept c.args.self.now.bytes.now in omega arith

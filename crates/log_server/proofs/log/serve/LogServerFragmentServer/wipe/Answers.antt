@@ -16,8 +16,8 @@ clear-requires c =
 left : (xs ys zs : List ℕ) (h : ℕ) → ys ≡ xs → h ≡ length (area_pieces xs) → zs ≡ replicate (record_length * h) 0 ++ drop (record_length * h) ys → zs ≡ wiped xs
 left xs ys zs h e p q = q ∙ ap (λ (t : List ℕ). replicate (record_length * h) 0 ++ drop (record_length * h) t) e ∙ cleared xs h p
 
-pub invariant-of-self : goal.invariant-of-self
-invariant-of-self c =
+pub invariant_of-self : goal.invariant_of-self
+invariant_of-self c =
     let s = c.args.self.now in
     let xs = s.bytes.now in
     let b = left xs c.replace-area.result.now c.clear.new.area s.held (ap (λ (b : Bor (List ℕ)). b.now) c.replace-area.ensures.value) s.count c.clear.ensures in

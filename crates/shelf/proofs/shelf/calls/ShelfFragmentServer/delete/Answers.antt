@@ -27,7 +27,7 @@ returns-in-Err c =
     let e = c.in-Err.ensures in
     record {
       answer =
-          ap Err c.fault-of.ensures ∙ ap told (e.answer c.args.self.now.rises) ∙ held_told (room t) (items t) c.number.result
+          ap Err c.fault_of.ensures ∙ ap told (e.answer c.args.self.now.rises) ∙ held_told (room t) (items t) c.number.result
           ∙ ap (held_answer (shelf_meaning c.args.self.now)) c.number.ensures;
       after =
           seen_as (room t) (items t) (room c.remove.new.self) (items c.remove.new.self) e.room

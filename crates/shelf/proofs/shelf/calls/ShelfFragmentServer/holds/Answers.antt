@@ -11,7 +11,7 @@ returns c =
     let t = c.args.self.now.table in
     let found = c.get.ensures c.args.self.now.rises ∙ ap (find place_number (items t)) c.number.ensures in
     record {
-      answer = c.is-some.ensures ∙ sym (some_mapped (λ x. x.now) c.get.result) ∙ ap is_some found ∙ sym (holds_seen (room t) (items t) (number_of c.args.key));
+      answer = c.is_some.ensures ∙ sym (some_mapped (λ x. x.now) c.get.result) ∙ ap is_some found ∙ sym (holds_seen (room t) (items t) (number_of c.args.key));
       after = refl;
       coherent = λ _. tt;
     }

@@ -29,7 +29,7 @@ returns-in-Err c =
     let e = c.in-Err.ensures in
     record {
       answer =
-          ap Err c.fault-of.ensures ∙ ap told (e.answer c.args.self.now.rises) ∙ store_told (room t) (items t) c.new.result
+          ap Err c.fault_of.ensures ∙ ap told (e.answer c.args.self.now.rises) ∙ store_told (room t) (items t) c.new.result
           ∙ ap (λ k. store_answer (shelf_meaning c.args.self.now) (number_of k)) c.new.ensures.key;
       after =
           seen_as (room t) (items t) (room c.insert.new.self) (items c.insert.new.self) e.room
