@@ -37,7 +37,10 @@ impl PartialEq for Fetched {
 
     ghost laws = { Prim.search (comparing, rules) };
 
-    fn eq(&self, other: &Fetched) -> bool {
+    fn eq(&self, other: &Fetched) -> bool
+        ensures computed { result ≡ (result_eq (λ _ _. true) (λ a b. fault_number a == fault_number b) self.now.answer other.now.answer && pointwise nat_eq self.now.bytes other.now.bytes) }
+        ensures same { Decides result (self.now ≡ other.now) }
+    {
         self.answer == other.answer && self.bytes == other.bytes
     }
 }
