@@ -26,10 +26,10 @@ impl<S: FragmentServer> Cache<S> {
     // An empty cache. It is coherent if the server is.
     pub fn new(below: S) -> Cache<S>
         ensures below { result.below ≡ below }
-        ensures meaning { means meaning result ≡ meaning below }
+        ensures meaning { means S.meaning result ≡ S.meaning below }
         ensures empty { result.slots.all ≡ empty_slots }
         ensures turn { result.slots.turn ≡ 0 }
-        ensures coherent { coherent below → Coheres meaning coherent result }
+        ensures coherent { S.coherent below → Coheres S.meaning S.coherent result }
     {
         Cache {
             below,
@@ -47,10 +47,10 @@ impl<S: FragmentServer> FragmentServer for Cache<S> {
 
     // Stores below. Where that is accepted, nothing stays cached under the key.
     fn store(&mut self, key: Key, bytes: &Fragment) -> Result<(), ServerFault>
-        ensures answer { result ≡ store_answer (means meaning self.old) (number_of key) }
-        ensures after { means meaning self.new ≡ store_after (means meaning self.old) (number_of key) bytes.now }
-        ensures coherent { Coheres meaning coherent self.old → Coheres meaning coherent self.new }
-        ensures below { meaning self.new.below ≡ store_after (meaning self.old.below) (number_of key) bytes.now }
+        ensures answer { result ≡ store_answer (means S.meaning self.old) (number_of key) }
+        ensures after { means S.meaning self.new ≡ store_after (means S.meaning self.old) (number_of key) bytes.now }
+        ensures coherent { Coheres S.meaning S.coherent self.old → Coheres S.meaning S.coherent self.new }
+        ensures below { S.meaning self.new.below ≡ store_after (S.meaning self.old.below) (number_of key) bytes.now }
         ensures slots { self.new.slots.all ≡ (if is_ok result then forgotten (number_of key) self.old.slots.all else self.old.slots.all) }
         ensures turn { self.new.slots.turn ≡ self.old.slots.turn }
     {
@@ -62,15 +62,15 @@ impl<S: FragmentServer> FragmentServer for Cache<S> {
     // Copies the cached bytes of a held key, and fetches nothing below. A held key that is not cached
     // is fetched below and kept: always, where what is cached equals what stands below.
     fn fetch(&mut self, key: Key, out: &mut Fragment) -> Result<(), ServerFault>
-        ensures answer { result ≡ held_answer (means meaning self.old) (number_of key) }
-        ensures copied { out.new ≡ fetched (means meaning self.old) (number_of key) out.old }
-        ensures after { means meaning self.new ≡ means meaning self.old }
-        ensures coherent { Coheres meaning coherent self.old → Coheres meaning coherent self.new }
-        ensures below { meaning self.new.below ≡ meaning self.old.below }
+        ensures answer { result ≡ held_answer (means S.meaning self.old) (number_of key) }
+        ensures copied { out.new ≡ fetched (means S.meaning self.old) (number_of key) out.old }
+        ensures after { means S.meaning self.new ≡ means S.meaning self.old }
+        ensures coherent { Coheres S.meaning S.coherent self.old → Coheres S.meaning S.coherent self.new }
+        ensures below { S.meaning self.new.below ≡ S.meaning self.old.below }
         ensures refused { is_ok result ≡ false → self.new.slots ≡ self.old.slots }
         ensures hit { is_some (cached self.old.slots.all (number_of key)) ≡ true → self.new.slots ≡ self.old.slots }
-        ensures missed { is_ok result ≡ true → cached self.old.slots.all (number_of key) ≡ None → Keeps meaning self.old key out.new self.new }
-        ensures kept { is_ok result ≡ true → AgreesBelow meaning self.old → cached self.new.slots.all (number_of key) ≡ Some out.new }
+        ensures missed { is_ok result ≡ true → cached self.old.slots.all (number_of key) ≡ None → Keeps S.meaning self.old key out.new self.new }
+        ensures kept { is_ok result ≡ true → AgreesBelow S.meaning self.old → cached self.new.slots.all (number_of key) ≡ Some out.new }
     {
         if !self.below.holds(key) {
             return Err(ServerFault::Absent);
@@ -86,10 +86,10 @@ impl<S: FragmentServer> FragmentServer for Cache<S> {
 
     // Deletes below. Where that is accepted, nothing stays cached under the key.
     fn delete(&mut self, key: Key) -> Result<(), ServerFault>
-        ensures answer { result ≡ held_answer (means meaning self.old) (number_of key) }
-        ensures after { means meaning self.new ≡ delete_after (means meaning self.old) (number_of key) }
-        ensures coherent { Coheres meaning coherent self.old → Coheres meaning coherent self.new }
-        ensures below { meaning self.new.below ≡ delete_after (meaning self.old.below) (number_of key) }
+        ensures answer { result ≡ held_answer (means S.meaning self.old) (number_of key) }
+        ensures after { means S.meaning self.new ≡ delete_after (means S.meaning self.old) (number_of key) }
+        ensures coherent { Coheres S.meaning S.coherent self.old → Coheres S.meaning S.coherent self.new }
+        ensures below { S.meaning self.new.below ≡ delete_after (S.meaning self.old.below) (number_of key) }
         ensures slots { self.new.slots.all ≡ (if is_ok result then forgotten (number_of key) self.old.slots.all else self.old.slots.all) }
         ensures turn { self.new.slots.turn ≡ self.old.slots.turn }
     {
@@ -100,9 +100,9 @@ impl<S: FragmentServer> FragmentServer for Cache<S> {
 
     // Wipes below, and lets go of everything cached.
     fn wipe(&mut self)
-        ensures after { means meaning self.new ≡ wipe_after (means meaning self.old) }
-        ensures coherent { Coheres meaning coherent self.new }
-        ensures below { meaning self.new.below ≡ wipe_after (meaning self.old.below) }
+        ensures after { means S.meaning self.new ≡ wipe_after (means S.meaning self.old) }
+        ensures coherent { Coheres S.meaning S.coherent self.new }
+        ensures below { S.meaning self.new.below ≡ wipe_after (S.meaning self.old.below) }
         ensures slots { self.new.slots.all ≡ empty_slots }
         ensures turn { self.new.slots.turn ≡ 0 }
     {

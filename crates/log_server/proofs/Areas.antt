@@ -1,6 +1,6 @@
 -- What an area means, from its records.
 use Rattle.std.proofs.Common.{◌≡◌, ℕ, zero, suc, ◌+◌, ◌-◌, ◌*◌, ◌/◌, ◌<◌, ◌≤◌, min, Bool, true, false, cond, ◌&&◌, eqb, List, [], ◌∷◌, ◌++◌, map, length, take, drop, replicate, Some, None, Option, sym, refl, ap, ◌∙◌, ⊎_elim, arith, MatchOption}
-use Rattle.std.proofs.lemmas.Bool.{cases_lt, eqb-true, and_parts, and_from, cond_true, cond-false}
+use Rattle.std.proofs.lemmas.Bool.{cases_lt, eqb-true, and_parts, and_from, cond-true, cond-false}
 use Rattle.std.proofs.lemmas.List.{take_at, drop_at, length-map, length-append, map-append, length-take-le, length-drop, length-replicate, append_assoc, take_all, take-append-drop, drop-drop, replicate-append-replicate}
 use Rattle.std.specs.List.{list_all}
 use Rattle.ordered.specs.Maps.{has, without}
@@ -44,8 +44,8 @@ area_from xs n hs fs w e h z a =
     let f : front (records_of xs) ≡ hs = ap front rs ∙ front_of hs fs h z in
     let t : rest (records_of xs) ≡ fs = ap rest rs ∙ rest_of hs fs h z in
     let o : in_order (records_of xs) ≡ true = and_from (list_all zeros (rest (records_of xs))) (apart (map piece_in (front (records_of xs)))) (ap (list_all zeros) t ∙ z) (ap (λ (l : List (List ℕ)). apart (map piece_in l)) f ∙ a) in (
-      cond_true (in_order (records_of xs)) (map piece_in (front (records_of xs))) [] o ∙ ap (map piece_in) f,
-      cond_true (in_order (records_of xs)) (whole_records xs) 0 o ∙ w,
+      cond-true (in_order (records_of xs)) (map piece_in (front (records_of xs))) [] o ∙ ap (map piece_in) f,
+      cond-true (in_order (records_of xs)) (whole_records xs) 0 o ∙ w,
     )
 
 -- what is true of every area
@@ -60,8 +60,8 @@ kept_either : (xs : List ℕ) (b : Bool) → in_order (records_of xs) ≡ b → 
 unfolding area_pieces area_places
 kept_either xs true e =
     let rs : List (List ℕ) = records_of xs in
-    let q : area_pieces xs ≡ map piece_in (front rs) = cond_true (in_order rs) (map piece_in (front rs)) [] e in
-    let w : area_places xs ≡ whole_records xs = cond_true (in_order rs) (whole_records xs) 0 e in
+    let q : area_pieces xs ≡ map piece_in (front rs) = cond-true (in_order rs) (map piece_in (front rs)) [] e in
+    let w : area_places xs ≡ whole_records xs = cond-true (in_order rs) (whole_records xs) 0 e in
     let h : length (area_pieces xs) ≡ length (front rs) = ap length q ∙ length-map (front rs) piece_in in
     let f = parted (whole_records xs) (length (front rs)) xs refl in
     record {
@@ -109,8 +109,8 @@ open_either xs true None e q = let z : ◌≡◌ {A = ℕ} 0 1 = cc in absurd (o
 open_either xs true (Some h) e q =
     let rs : List (List ℕ) = records_of xs in
     let f : h ≡ length (front rs) = cc in (
-      sym (cond_true (in_order rs) (whole_records xs) 0 e),
-      f ∙ sym (ap length (cond_true (in_order rs) (map piece_in (front rs)) [] e) ∙ length-map (front rs) piece_in),
+      sym (cond-true (in_order rs) (whole_records xs) 0 e),
+      f ∙ sym (ap length (cond-true (in_order rs) (map piece_in (front rs)) [] e) ∙ length-map (front rs) piece_in),
     )
 open_either xs false None e q =
     let rs : List (List ℕ) = records_of xs in
@@ -140,10 +140,10 @@ unfolding area_pieces area_places
 ordered xs h l e =
     let rs : List (List ℕ) = records_of xs in
     let o : in_order rs ≡ true = in_order_lem xs (in_order rs) refl l in
-    let q : area_pieces xs ≡ map piece_in (front rs) = cond_true (in_order rs) (map piece_in (front rs)) [] o in
+    let q : area_pieces xs ≡ map piece_in (front rs) = cond-true (in_order rs) (map piece_in (front rs)) [] o in
     let f = parted (whole_records xs) h xs (sym (length-map (front rs) piece_in) ∙ sym (ap length q) ∙ e) in
     record {
-      whole = cond_true (in_order rs) (whole_records xs) 0 o;
+      whole = cond-true (in_order rs) (whole_records xs) 0 o;
       held = ap (list_all is_held) f.1 ∙ front_held rs;
       free = ap (list_all zeros) f.2 ∙ (and_parts (list_all zeros (rest rs)) (apart (map piece_in (front rs))) o).0;
     }
@@ -271,7 +271,7 @@ unfolding area_pieces area_places
 wipe_either xs true e =
     let k = area_kept xs in
     let n : ℕ = area_places xs in
-    let w : area_places xs ≡ whole_records xs = cond_true (in_order (records_of xs)) (whole_records xs) 0 e in
+    let w : area_places xs ≡ whole_records xs = cond-true (in_order (records_of xs)) (whole_records xs) 0 e in
     let z : List ℕ = replicate (record_length * n) 0 in
     let lz : length z ≡ record_length * n = length-replicate {A = ℕ} (record_length * n) 0 in
     let l : length (wiped xs) ≡ length xs = simp (length-append, length-drop) (omega (arith, k.room)) in

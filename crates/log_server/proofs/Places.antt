@@ -1,7 +1,7 @@
 -- Walking the pieces for a key, or for the least key from a given one on.
 use Rattle.std.proofs.Common.{◌≡◌, ℕ, zero, suc, ◌+◌, ◌<◌, eqb, List, [], ◌∷◌, ◌++◌, length, drop, is_some, Some, None, Option, sym, refl, ap, ◌∙◌, arith}
 use Rattle.std.proofs.lemmas.Bool.Decides.{nat_tests}
-use Rattle.std.proofs.lemmas.Bool.{cond_true, cond-false, eq-eqb, ne_eqb}
+use Rattle.std.proofs.lemmas.Bool.{cond-true, cond-false, eq-eqb, ne_eqb}
 use Rattle.std.specs.Option.{option_map}
 use Rattle.ordered.specs.Maps.{find, has, put, without, least}
 use Rattle.server.specs.Meaning.{Piece, piece_key, key_in}
@@ -40,7 +40,7 @@ place_next i (Some j) = ap Some (omega arith)
 pub place_here : (p : Piece) (ps qs : List Piece) (k i : ℕ) → ps ≡ p ∷ qs → piece_key p ≡ k → Some i ≡ option_map (λ j. i + j) (place_of ps k)
 place_here p ps qs k i e h =
     let z : i ≡ i + 0 = omega arith in
-    ap Some z ∙ ap (option_map (λ j. i + j)) (sym (cond_true (eqb (piece_key p) k) (Some 0) (option_map suc (place_of qs k)) (eq-eqb (piece_key p) k h)) ∙ sym (ap (λ (t : List Piece). place_of t k) e))
+    ap Some z ∙ ap (option_map (λ j. i + j)) (sym (cond-true (eqb (piece_key p) k) (Some 0) (option_map suc (place_of qs k)) (eq-eqb (piece_key p) k h)) ∙ sym (ap (λ (t : List Piece). place_of t k) e))
 
 pub place_on : (p : Piece) (ps qs : List Piece) (k i : ℕ) → ps ≡ p ∷ qs → (piece_key p ≡ k → ⊥) → option_map (λ j. i + j) (place_of ps k) ≡ option_map (λ j. i + 1 + j) (place_of qs k)
 place_on p ps qs k i e h =

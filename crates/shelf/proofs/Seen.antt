@@ -61,7 +61,7 @@ module _ (room : ℕ) (xs : List ShelfPlace) where
   store_answers false true = refl
   store_answers false false = refl
 
-  pub store_told : (e : ShelfPlace) → told (table.insert-answer place_number xs room e) ≡ store_answer seen (place_number e)
+  pub store_told : (e : ShelfPlace) → told (table.insert_answer place_number xs room e) ≡ store_answer seen (place_number e)
   store_told e = rw (holds_seen (place_number e), full_seen) (store_answers (has place_number xs (place_number e)) (ltb (length xs) room))
 
   store_leaves : (e : ShelfPlace) (h r : Bool) → holding_of (cond h xs (cond r (put place_number xs e) xs)) ≡ cond h seen (cond (cond r false true) seen (record { places = room; held = put piece_key (map piece_of xs) (piece_of e) }))
@@ -69,14 +69,14 @@ module _ (room : ℕ) (xs : List ShelfPlace) where
   store_leaves e false true = ap (λ (ps : List Piece). record { places = room; held = ps }) (sym (put_map place_number piece_key piece_of (λ _. refl) xs e))
   store_leaves e false false = refl
 
-  pub stored : (e : ShelfPlace) → holding_of (table.insert-after place_number xs room e) ≡ store_after seen (place_number e) e.bytes
+  pub stored : (e : ShelfPlace) → holding_of (table.insert_after place_number xs room e) ≡ store_after seen (place_number e) e.bytes
   stored e = rw (holds_seen (place_number e), full_seen) (store_leaves e (has place_number xs (place_number e)) (ltb (length xs) room))
 
   held_answers : (h : Bool) → told (cond h (Ok tt) (Err full.Absent)) ≡ cond h (Ok tt) (Err Absent)
   held_answers true = refl
   held_answers false = refl
 
-  pub held_told : (k : ℕ) → told (table.held-answer place_number xs k) ≡ held_answer seen k
+  pub held_told : (k : ℕ) → told (table.held_answer place_number xs k) ≡ held_answer seen k
   held_told k = rw (holds_seen k) (held_answers (has place_number xs k))
 
   pub deleted : (k : ℕ) → holding_of (without place_number xs k) ≡ delete_after seen k

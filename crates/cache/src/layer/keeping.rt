@@ -13,10 +13,10 @@ impl<S: FragmentServer> Cache<S> {
     // Whether what is cached under a key may go. It may not where other bytes stand below: the cache
     // means those that are cached, and a fetch must leave what it means.
     fn is_spare(&mut self, key: Key) -> bool
-        ensures answer { result ≡ is_spare (meaning self.old.below) self.old.slots.all (number_of key) }
-        ensures below { meaning self.new.below ≡ meaning self.old.below }
+        ensures answer { result ≡ is_spare (S.meaning self.old.below) self.old.slots.all (number_of key) }
+        ensures below { S.meaning self.new.below ≡ S.meaning self.old.below }
         ensures slots { self.new.slots ≡ self.old.slots }
-        ensures coherent { coherent self.old.below → coherent self.new.below }
+        ensures coherent { S.coherent self.old.below → S.coherent self.new.below }
     {
         let mut standing: Fragment = [0; FRAGMENT_LENGTH];
         if self.below.fetch(key, &mut standing).is_err() {
@@ -30,10 +30,10 @@ impl<S: FragmentServer> Cache<S> {
 
     // Fills the slot whose turn it is, if what is there may go.
     pub(super) fn keep(&mut self, kept: KeptFragment)
-        ensures below { meaning self.new.below ≡ meaning self.old.below }
-        ensures slots { self.new.slots.all ≡ keep_after (meaning self.old.below) self.old.slots.all self.old.slots.turn kept }
-        ensures turn { self.new.slots.turn ≡ turn_after (meaning self.old.below) self.old.slots.all self.old.slots.turn }
-        ensures coherent { coherent self.old.below → coherent self.new.below }
+        ensures below { S.meaning self.new.below ≡ S.meaning self.old.below }
+        ensures slots { self.new.slots.all ≡ keep_after (S.meaning self.old.below) self.old.slots.all self.old.slots.turn kept }
+        ensures turn { self.new.slots.turn ≡ turn_after (S.meaning self.old.below) self.old.slots.all self.old.slots.turn }
+        ensures coherent { S.coherent self.old.below → S.coherent self.new.below }
     {
         if let Some(old) = self.slots.next_out() {
             if !self.is_spare(old) {

@@ -1,5 +1,5 @@
 use Rattle.std.proofs.Common.{◌≡◌, ℕ, ◌-◌, ◌*◌, Bool, false, ◌&&◌, length, take, drop, Some, None, sym, ap, ◌∙◌}
-use Rattle.std.proofs.lemmas.Bool.{cond_true, cond-false, and_from, and_left, and_right}
+use Rattle.std.proofs.lemmas.Bool.{cond-true, cond-false, and_from, and_left, and_right}
 use Rattle.log_server.specs.Records.{record_length, records, zeros}
 use Rattle.log_server.specs.Area.{pieces, front, apart, in_order}
 use Rattle.log_server.proofs.Areas.{order_is}
@@ -12,7 +12,7 @@ returns-then-keys_apart c =
     let n : ℕ = c.args.n in
     let h : ℕ = c.count_held-held.result in
     let o = order_is n h xs c.count_held-held.ensures.is ∙ and_from (zeros (take (record_length * n - record_length * h) (drop (record_length * h) xs))) (apart (pieces h xs)) (sym c.if-all_zero.ensures) (sym c.if-keys_apart.ensures) in
-    ap Some c.count_held-held.ensures.is ∙ sym (cond_true (in_order (records n xs)) (Some (length (front (records n xs)))) None o)
+    ap Some c.count_held-held.ensures.is ∙ sym (cond-true (in_order (records n xs)) (Some (length (front (records n xs)))) None o)
 
 pub returns-else-all_zero : goal.returns-else-all_zero
 returns-else-all_zero c =

@@ -1,5 +1,5 @@
 use Rattle.std.proofs.Common.{◌≡◌, ℕ, ◌*◌, ◌^◌, ltb, Some, None, ap, ◌∙◌, arith, lt-ltb}
-use Rattle.std.proofs.lemmas.Bool.{cond_true}
+use Rattle.std.proofs.lemmas.Bool.{cond-true}
 use Rattle.ordered.specs.Maps.{least}
 use Rattle.geometry.specs.Keys.{number_of}
 use Rattle.server.specs.Meaning.{piece_key, key_in, key_from}
@@ -17,7 +17,7 @@ returns-in-Some c =
     let n : ℕ = c.in-Some.number in
     let e : Some n ≡ key_from (area_meaning xs) (number_of c.args.key) =
     c.in-Some.ensures ∙ ap (λ (k : ℕ). key_in (least piece_key (map_of (pieces c.args.self.now.held xs)) k)) c.number.ensures ∙ from_is xs (number_of c.args.key) c.args.self.now.held c.args.self.now.count in
-    c.from_number.ensures ∙ cond_true (ltb n (8 * 2 ^ 32)) (Some n) None (lt-ltb n (8 * 2 ^ 32) (from_small xs (number_of c.args.key) n e)) ∙ e
+    c.from_number.ensures ∙ cond-true (ltb n (8 * 2 ^ 32)) (Some n) None (lt-ltb n (8 * 2 ^ 32) (from_small xs (number_of c.args.key) n e)) ∙ e
 
 pub returns-in-None : goal.returns-in-None
 returns-in-None c =

@@ -6,8 +6,8 @@ use Rattle.log_server.proofs.log.serve.LogServerFragmentServer.free.Goals as goa
 pub overflow_sub-result : goal.overflow_sub-result
 overflow_sub-result c = let k = area_kept c.args.self.now.bytes.now in omega arith
 
-pub overflow-cast-result : goal.overflow-cast-result
-overflow-cast-result c = let k = area_kept c.args.self.now.bytes.now in omega arith
+pub overflow_cast-result : goal.overflow_cast-result
+overflow_cast-result c = let k = area_kept c.args.self.now.bytes.now in omega arith
 
 pub returns : goal.returns
 returns c =
