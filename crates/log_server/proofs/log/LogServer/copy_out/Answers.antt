@@ -8,11 +8,11 @@ use Rattle.log_server.proofs.Areas.{area_kept}
 use Rattle.log_server.proofs.Meanings.{held_is, fetched_none, fetched_some}
 use Rattle.log_server.proofs.log.LogServer.copy_out.Goals as goal
 
-pub returns-in-default : goal.returns-in-default
-returns-in-default c =
+pub returns-in_default : goal.returns-in_default
+returns-in_default c =
     let xs = c.args.self.now.bytes.now in
     let k = number_of c.args.key in
-    let e : place_of (area_pieces xs) k ≡ None = sym c.place.ensures ∙ c.in-default.is in
+    let e : place_of (area_pieces xs) k ≡ None = sym c.place.ensures ∙ c.in_default.is in
     record { answer = sym (held_is xs k None e); copied = sym (fetched_none xs k c.args.out.now e) }
 
 pub record_at-record-requires : goal.record_at-record-requires

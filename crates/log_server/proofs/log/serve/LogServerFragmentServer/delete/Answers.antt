@@ -1,4 +1,4 @@
-use Rattle.std.proofs.Common.{◌≡◌, ℕ, List, length, Some, None, sym, refl, ap, ◌∙◌, arith, Bor, MutBor}
+use Rattle.std.proofs.Common.{◌≡◌, ℕ, List, length, Some, None, sym, refl, ap, ◌∙◌, arith, MutBor}
 use Rattle.geometry.specs.Keys.{number_of}
 use Rattle.log_server.specs.Area.{area_pieces, area_places, area_meaning}
 use Rattle.log_server.specs.Calls.{without_record, deleted_at, deleted}
@@ -8,11 +8,11 @@ use Rattle.log_server.proofs.Areas.{area_kept}
 use Rattle.log_server.proofs.Meanings.{held_is, delete_counts, delete_means}
 use Rattle.log_server.proofs.log.serve.LogServerFragmentServer.delete.Goals as goal
 
-pub returns-in-default : goal.returns-in-default
-returns-in-default c =
+pub returns-in_default : goal.returns-in_default
+returns-in_default c =
     let xs = c.args.self.now.bytes.now in
     let k = number_of c.args.key in
-    let e : place_of (area_pieces xs) k ≡ None = sym c.place.ensures ∙ c.in-default.is in
+    let e : place_of (area_pieces xs) k ≡ None = sym c.place.ensures ∙ c.in_default.is in
     let b : xs ≡ deleted xs k = sym (ap (deleted_at xs) e) in
     record { answer = sym (held_is xs k None e); after = ap area_meaning b ∙ delete_means xs k; coherent = λ u. u; bytes = b; same = refl }
 
@@ -21,7 +21,7 @@ close_gap-requires c =
     let xs = c.args.self.now.bytes.now in
     let k = area_kept xs in
     let l = place_within (area_pieces xs) (number_of c.args.key) c.in-Some.i (sym c.place.ensures ∙ c.in-Some.is) in
-    let e = ap (λ (b : Bor (List ℕ)). length b.now) c.replace-area.ensures.value in
+    let e = ap (λ (b : MutBor (List ℕ)). length b.now) c.replace-area.ensures.value in
     record { within = omega arith; room = omega arith }
 
 pub overflow_sub-self : goal.overflow_sub-self
@@ -38,9 +38,9 @@ invariant_of-self c =
     let s = c.args.self.now in
     let xs = s.bytes.now in
     let a = delete_counts xs (number_of c.args.key) c.in-Some.i (sym c.place.ensures ∙ c.in-Some.is) in
-    let b = left xs c.replace-area.result.now c.close_gap.new.area c.in-Some.i s.held (ap (λ (b : Bor (List ℕ)). b.now) c.replace-area.ensures.value) s.count c.close_gap.ensures in
+    let b = left xs c.replace-area.result.now c.close_gap.new.area c.in-Some.i s.held (ap (λ (b : MutBor (List ℕ)). b.now) c.replace-area.ensures.value) s.count c.close_gap.ensures in
     let n = ap (λ (t : List ℕ). length (area_pieces t)) b in
-    (s.places ∙ sym (ap area_places b ∙ a.0), (omega (arith, a.1), tt))
+    record { places = s.places ∙ sym (ap area_places b ∙ a.0); count = omega (arith, a.1) }
 
 pub returns : goal.returns
 returns c =

@@ -1,4 +1,4 @@
-use Rattle.std.proofs.Common.{◌≡◌, ℕ, ◌<◌, true, false, eqb, List, length, Ok, Err, sym, refl, ap, ◌∙◌, arith, Bor, MutBor}
+use Rattle.std.proofs.Common.{◌≡◌, ℕ, ◌<◌, true, false, eqb, List, length, Ok, Err, sym, refl, ap, ◌∙◌, arith, MutBor}
 use borrow.Author.Tests.{eqb-false}
 use Rattle.server.specs.declared.fault.ServerFault.TheVariants.{Held, Full}
 use Rattle.geometry.specs.Keys.{number_of}
@@ -31,7 +31,7 @@ room xs f = let k = area_kept xs in let e = free_is xs in let g = eqb-false (fre
 pub put_record-requires : goal.put_record-requires
 put_record-requires c =
     let k = area_kept c.args.self.now.bytes.now in
-    let e = ap (λ (b : Bor (List ℕ)). length b.now) c.replace-area.ensures.value in
+    let e = ap (λ (b : MutBor (List ℕ)). length b.now) c.replace-area.ensures.value in
     let r = room c.args.self.now.bytes.now c.if-is_full.ensures in
     omega arith
 
@@ -50,9 +50,9 @@ invariant_of-self c =
     let r : List ℕ = held_record key.client key.stripe c.args.bytes.now in
     let w = held_record_lem key.client key.stripe c.args.bytes.now key.known key.narrow c.told-bytes in
     let a = store_counts xs r (number_of key) c.args.bytes.now w.0 w.1 w.2 (sym c.if-has.ensures) (room xs c.if-is_full.ensures) in
-    let b = left xs c.replace-area.result.now c.put_record.new.area r s.held (ap (λ (b : Bor (List ℕ)). b.now) c.replace-area.ensures.value) s.count c.put_record.ensures in
+    let b = left xs c.replace-area.result.now c.put_record.new.area r s.held (ap (λ (b : MutBor (List ℕ)). b.now) c.replace-area.ensures.value) s.count c.put_record.ensures in
     let n = ap (λ (t : List ℕ). length (area_pieces t)) b in
-    (s.places ∙ sym (ap area_places b ∙ a.0), (omega (arith, a.1), tt))
+    record { places = s.places ∙ sym (ap area_places b ∙ a.0); count = omega (arith, a.1) }
 
 pub returns : goal.returns
 returns c =

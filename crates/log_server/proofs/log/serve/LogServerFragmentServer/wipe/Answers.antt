@@ -1,4 +1,4 @@
-use Rattle.std.proofs.Common.{◌≡◌, ℕ, ◌*◌, List, ◌++◌, length, drop, replicate, sym, ap, ◌∙◌, arith, Bor, MutBor}
+use Rattle.std.proofs.Common.{◌≡◌, ℕ, ◌*◌, List, ◌++◌, length, drop, replicate, sym, ap, ◌∙◌, arith, MutBor}
 use Rattle.log_server.specs.Records.{record_length}
 use Rattle.log_server.specs.Area.{area_pieces, area_places, area_meaning}
 use Rattle.log_server.specs.Calls.{wiped}
@@ -9,7 +9,7 @@ use Rattle.log_server.proofs.log.serve.LogServerFragmentServer.wipe.Goals as goa
 pub clear-requires : goal.clear-requires
 clear-requires c =
     let k = area_kept c.args.self.now.bytes.now in
-    let e = ap (λ (b : Bor (List ℕ)). length b.now) c.replace-area.ensures.value in
+    let e = ap (λ (b : MutBor (List ℕ)). length b.now) c.replace-area.ensures.value in
     omega arith
 
 -- the bytes that are left
@@ -20,9 +20,9 @@ pub invariant_of-self : goal.invariant_of-self
 invariant_of-self c =
     let s = c.args.self.now in
     let xs = s.bytes.now in
-    let b = left xs c.replace-area.result.now c.clear.new.area s.held (ap (λ (b : Bor (List ℕ)). b.now) c.replace-area.ensures.value) s.count c.clear.ensures in
+    let b = left xs c.replace-area.result.now c.clear.new.area s.held (ap (λ (b : MutBor (List ℕ)). b.now) c.replace-area.ensures.value) s.count c.clear.ensures in
     let a = area_wipe xs in
-    (s.places ∙ sym (ap area_places b ∙ a.1), (sym (ap (λ (t : List ℕ). length (area_pieces t)) b ∙ ap length a.0), tt))
+    record { places = s.places ∙ sym (ap area_places b ∙ a.1); count = sym (ap (λ (t : List ℕ). length (area_pieces t)) b ∙ ap length a.0) }
 
 pub returns : goal.returns
 returns c =
