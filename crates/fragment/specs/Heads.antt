@@ -1,5 +1,5 @@
 -- The head of a data fragment, 32 bytes.
-use Rattle.std.specs.Prelude.{ℕ, ◌+◌, Bool, cond, ◌&&◌, List, [], ◌∷◌, ◌++◌, drop, replicate, Some, None, Ok, Err, Option, Result, ◌==◌, nat_lt, slice_index}
+use Rattle.std.specs.Prelude.{ℕ, ◌+◌, Bool, cond, ◌&&◌, List, ◌∷◌, ◌++◌, drop, replicate, Some, None, Ok, Err, Option, Result, ◌==◌, nat_lt, slice_index}
 use Rattle.geometry.specs.Keys.{client_of, stripe_of}
 use Rattle.fragment.specs.declared.cause.Cause.{Cause}
 use Rattle.fragment.specs.declared.cause.Cause.TheVariants.{BadLayout, BadRow, BadHead}

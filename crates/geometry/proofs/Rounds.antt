@@ -5,7 +5,7 @@ use native.Mathlib.Decide.{dec_lt}
 use Rattle.geometry.specs.declared.part.Part.{Part}
 use Rattle.geometry.specs.declared.part.Part.TheVariants.{Parity, Data}
 use Rattle.geometry.specs.Keys.{client_of, stripe_of}
-use Rattle.geometry.specs.Placement.{parity_server, data_server, server_of, IsPart, steps_on, part_at, part_on, Lies, OnePartOnEachServer}
+use Rattle.geometry.specs.Placement.{parity_server, data_server, server_of, IsPart, steps_on, part_at, part_on, OnePartOnEachServer}
 
 -- a remainder of less than twice n
 pub under : (n x : ℕ) → x < n → x % n ≡ x

@@ -1,6 +1,6 @@
 -- What a server means: how many places it has, and what it holds, as pairs of a key's number and the fragment's bytes
 -- whose numbers rise. One meaning has one value, so that contracts are equations.
-use Rattle.std.specs.Prelude.{◌≡◌, ℕ, ◌-◌, ◌*◌, ◌^◌, ◌<◌, ◌≤◌, Bool, cond, List, [], ◌∷◌, map, length, Some, None, Ok, Err, Option, Result, ◌==◌}
+use Rattle.std.specs.Prelude.{◌≡◌, ℕ, ◌-◌, ◌*◌, ◌^◌, ◌<◌, ◌≤◌, Bool, cond, List, [], length, Some, None, Ok, Err, Option, Result, ◌==◌}
 use Rattle.std.specs.List.{AllByRecursion as All}
 use Rattle.geometry.specs.Keys.{stripes}
 use Rattle.geometry.specs.Sizes.{fragment_length}

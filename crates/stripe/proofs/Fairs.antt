@@ -1,5 +1,5 @@
 -- The test for a slot that can be written and read back.
-use Rattle.std.proofs.Common.{◌≡◌, Bool, true, ◌&&◌, List, [], ◌∷◌, refl, ltb-true, lt-ltb, eq-eqb, eqb-true}
+use Rattle.std.proofs.Common.{◌≡◌, true, List, [], ◌∷◌, refl, ltb-true, lt-ltb, eq-eqb, eqb-true}
 use Rattle.std.specs.List.{list_all, AllByRecursion as All}
 use Rattle.std.proofs.lemmas.Bool.{and_parts, and_from}
 use Rattle.fragment.specs.Slots.{Filled, Fair}

@@ -1,5 +1,5 @@
 -- Worked examples of the formats.
-use Rattle.std.specs.Prelude.{◌≡◌, ℕ, true, [], ◌∷◌, replicate}
+use Rattle.std.specs.Prelude.{◌≡◌, true, [], ◌∷◌, replicate}
 use Rattle.geometry.specs.Keys.{key_number}
 use Rattle.geometry.specs.Placement.{parity_server, data_server}
 use Rattle.geometry.specs.Sizes.{fragment_length}

@@ -1,6 +1,6 @@
-use Rattle.std.proofs.Common.{◌≡◌, ◌+◌, ◌-◌, ◌%◌, Some, sym, ap, ◌∙◌, arith, rules}
+use Rattle.std.proofs.Common.{◌≡◌, ◌+◌, ◌-◌, ◌%◌, Some, ap, ◌∙◌, arith, rules}
 use Rattle.geometry.specs.Keys.{number_of}
-use Rattle.geometry.specs.Placement.{part_at, steps_on}
+use Rattle.geometry.specs.Placement.{steps_on}
 use Rattle.geometry.proofs.Rounds.{one_part_on_each_server, part_found, data_at}
 use Rattle.geometry.proofs.placement.part_on.Goals as goal
 

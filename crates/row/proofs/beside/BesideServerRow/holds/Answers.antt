@@ -1,4 +1,4 @@
-use Rattle.std.proofs.Common.{◌≡◌, ◌<◌, ◌≤◌, ap, arith}
+use Rattle.std.proofs.Common.{◌<◌, ◌≤◌, ap, arith}
 use Rattle.row.specs.Rows.{count, beside}
 use Rattle.row.proofs.Sides.{at_left, at_right}
 use Rattle.row.proofs.beside.BesideServerRow.holds.Goals as goal

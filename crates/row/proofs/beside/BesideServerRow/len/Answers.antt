@@ -1,6 +1,5 @@
-use Rattle.std.proofs.Common.{◌++◌, take, arith}
+use Rattle.std.proofs.Common.{arith}
 use Rattle.std.proofs.lemmas.List.{length-append, length-take}
-use Rattle.row.specs.Rows.{most}
 use Rattle.row.proofs.beside.BesideServerRow.len.Goals as goal
 
 pub returns : goal.returns

@@ -1,4 +1,4 @@
-use Rattle.std.proofs.Common.{◌≡◌, ◌<◌, ◌≤◌, ap, ◌∙◌, arith}
+use Rattle.std.proofs.Common.{◌<◌, ◌≤◌, ap, ◌∙◌, arith}
 use Rattle.row.specs.Rows.{count, beside}
 use Rattle.row.proofs.Sides.{at_left, at_right, set_left, set_right, count_set}
 use Rattle.row.proofs.beside.BesideServerRow.store.Goals as goal

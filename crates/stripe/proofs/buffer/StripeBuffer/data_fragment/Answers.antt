@@ -1,4 +1,4 @@
-use Rattle.std.proofs.Common.{◌≡◌, ap, ◌∙◌, arith, rules}
+use Rattle.std.proofs.Common.{ap, ◌∙◌, arith, rules}
 use Rattle.geometry.specs.Keys.{number_of}
 use Rattle.fragment.specs.Fragments.{read_fragment}
 use Rattle.stripe.specs.Means.{slots_in}

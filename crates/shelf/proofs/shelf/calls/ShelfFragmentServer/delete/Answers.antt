@@ -1,5 +1,4 @@
-use Rattle.std.proofs.Common.{◌≡◌, ℕ, Err, refl, ap, ◌∙◌}
-use Rattle.geometry.specs.Keys.{number_of}
+use Rattle.std.proofs.Common.{Err, ap, ◌∙◌}
 use Rattle.ordered.specs.Tables.{items, room}
 use Rattle.server.specs.Meaning.{held_answer, delete_after}
 use Rattle.shelf.specs.Shelves.{shelf_meaning}

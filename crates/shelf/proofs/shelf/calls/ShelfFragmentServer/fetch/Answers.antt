@@ -1,4 +1,4 @@
-use Rattle.std.proofs.Common.{◌≡◌, refl, ap, ◌∙◌}
+use Rattle.std.proofs.Common.{refl, ap, ◌∙◌}
 use Rattle.geometry.specs.Keys.{number_of}
 use Rattle.ordered.specs.Maps.{find}
 use Rattle.ordered.specs.Tables.{items, room}

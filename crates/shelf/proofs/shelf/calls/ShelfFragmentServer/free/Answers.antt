@@ -1,4 +1,4 @@
-use Rattle.std.proofs.Common.{◌≡◌, sym, ap, ◌∙◌, arith, rules}
+use Rattle.std.proofs.Common.{arith, rules}
 use Rattle.ordered.specs.Tables.{items, room}
 use Rattle.shelf.proofs.Seen.{free_seen}
 use Rattle.shelf.proofs.shelf.calls.ShelfFragmentServer.free.Goals as goal

@@ -1,4 +1,4 @@
-use Rattle.std.proofs.Common.{◌≡◌, Some, None, refl, ap, ◌∙◌}
+use Rattle.std.proofs.Common.{Some, None, refl, ap, ◌∙◌}
 use Rattle.geometry.specs.declared.key.Key.{Key}
 use Rattle.geometry.specs.Keys.{number_of}
 use Rattle.ordered.specs.Maps.{least}

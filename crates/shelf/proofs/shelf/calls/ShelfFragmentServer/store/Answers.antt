@@ -1,8 +1,7 @@
-use Rattle.std.proofs.Common.{◌≡◌, ℕ, List, Err, refl, ap, ◌∙◌}
+use Rattle.std.proofs.Common.{ℕ, List, Err, ap, ◌∙◌}
 use Rattle.geometry.specs.Keys.{number_of}
 use Rattle.ordered.specs.Tables.{items, room}
 use Rattle.server.specs.Meaning.{store_answer, store_after}
-use Rattle.shelf.specs.Places.{place_number}
 use Rattle.shelf.specs.Shelves.{shelf_meaning}
 use Rattle.shelf.proofs.Seen.{told, store_told, stored, seen_as, holding_of}
 use Rattle.shelf.proofs.shelf.calls.ShelfFragmentServer.store.Goals as goal
