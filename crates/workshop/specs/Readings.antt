@@ -47,4 +47,4 @@ low_in (Some noted) = cond (is_low noted.kpa) (Some noted.kpa) None
 -- a tyre is listed just if its newest reading is low, with that pressure; each once, by truck, then by tyre
 pub record LowList (m : Newest) (lows : List LowTyre) : Type 0 where
   pub each : (tyre : TyreId) → listed lows tyre ≡ low_in (noted_for m tyre)
-  pub sorted : IsStrictlySortedBy (λ x y. by_tyre.cmp x y) (map (λ low. low.tyre) lows)
+  pub sorted : IsStrictlySortedBy by_tyre (map (λ low. low.tyre) lows)

@@ -15,5 +15,4 @@ pub struct Noted {
 #[derive(Drop)]
 pub struct Newest {
     noted: BTreeMap<TyreId, Noted>,
-    // The map's keys are in order.
 }
