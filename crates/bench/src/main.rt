@@ -2,7 +2,7 @@
 // says how long each round took, in nanoseconds.
 #![tactic(auto)]
 
-mod parity;
+mod parity_rounds;
 
 use std::env;
 
@@ -20,6 +20,6 @@ fn timed(rt: &HostRuntime) -> anyhow::Result<bool> {
 
 fn run(rt: &HostRuntime) -> anyhow::Result<()> {
     let times = timed(rt)?;
-    parity::run(rt, times)?;
+    parity_rounds::run(rt, times)?;
     Ok(())
 }

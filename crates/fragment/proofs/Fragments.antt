@@ -2,7 +2,7 @@
 use Rattle.std.proofs.Common.{◌≡◌, ℕ, zero, suc, ◌+◌, ◌*◌, ◌<◌, ◌≤◌, List, [], ◌∷◌, ◌++◌, map, length, get_or, take, drop, Some, None, Ok, Err, Option, Result, sym, refl, ap, ◌∙◌, arith}
 use Rattle.std.proofs.ByRecursion.{All-take, All-drop}
 use Rattle.std.proofs.lemmas.List.{length-append, length-take-le, length-drop, take_at, drop_at, drop-drop, drop_all, take-append-drop, get_or-take}
-use Rattle.std.specs.List.{flat_map, AllByRecursion as All}
+use Rattle.std.specs.List.{flat_map, AllByRecursion}
 use Rattle.geometry.specs.Sizes.{head_length, slot_length, slots_in_fragment, slot_place, fragment_length}
 use Rattle.fragment.specs.declared.cause.Cause.{Cause}
 use Rattle.fragment.specs.declared.layout.Layout.{Layout}
@@ -16,19 +16,19 @@ use Rattle.fragment.proofs.Parts.{cut}
 use Rattle.fragment.proofs.Slots.{length-slot_bytes, reads_slot, slot_exact}
 use Rattle.fragment.proofs.Heads.{reads_head, head_exact}
 
-pub length_slots : (slots : List (Option Filled)) → All FairSlot slots → length (flat_map slot_bytes slots) ≡ length slots * slot_length
+pub length_slots : (slots : List (Option Filled)) → AllByRecursion FairSlot slots → length (flat_map slot_bytes slots) ≡ length slots * slot_length
 length_slots [] fair = refl
 length_slots (s ∷ slots) fair =
     let a = length-slot_bytes s fair.0 in
     let b = length_slots slots fair.1 in
     length-append (slot_bytes s) (flat_map slot_bytes slots) ∙ omega arith
 
-pub length-fragment_bytes : (n k i : ℕ) (slots : List (Option Filled)) → All FairSlot slots → length slots ≡ slots_in_fragment → length (fragment_bytes n k i slots) ≡ fragment_length
+pub length-fragment_bytes : (n k i : ℕ) (slots : List (Option Filled)) → AllByRecursion FairSlot slots → length slots ≡ slots_in_fragment → length (fragment_bytes n k i slots) ≡ fragment_length
 length-fragment_bytes n k i slots fair three = let l = length_slots slots fair in length-append (head_bytes n k i) (flat_map slot_bytes slots) ∙ omega arith
 
 -- the slots of a fragment that was written
 
-slot_of : (slots : List (Option Filled)) (j : ℕ) → All FairSlot slots → j < length slots → part (j * slot_length) slot_length (flat_map slot_bytes slots) ≡ slot_bytes (get_or slots j None)
+slot_of : (slots : List (Option Filled)) (j : ℕ) → AllByRecursion FairSlot slots → j < length slots → part (j * slot_length) slot_length (flat_map slot_bytes slots) ≡ slot_bytes (get_or slots j None)
 slot_of [] j fair h = absurd (omega arith)
 slot_of (s ∷ slots) zero fair h = take_at (slot_bytes s) (flat_map slot_bytes slots) slot_length (length-slot_bytes s fair.0)
 slot_of (s ∷ slots) (suc j) fair h =
@@ -37,7 +37,7 @@ slot_of (s ∷ slots) (suc j) fair h =
     ∙ ap (take slot_length) (sym (drop-drop (j * slot_length) slot_length (slot_bytes s ++ flat_map slot_bytes slots)) ∙ ap (drop (j * slot_length)) (drop_at (slot_bytes s) (flat_map slot_bytes slots) slot_length (length-slot_bytes s fair.0)))
     ∙ slot_of slots j fair.1 (omega arith)
 
-pub slot_in-fragment_bytes : (n k i j : ℕ) (slots : List (Option Filled)) → All FairSlot slots → j < length slots → slot_in (fragment_bytes n k i slots) j ≡ slot_bytes (get_or slots j None)
+pub slot_in-fragment_bytes : (n k i j : ℕ) (slots : List (Option Filled)) → AllByRecursion FairSlot slots → j < length slots → slot_in (fragment_bytes n k i slots) j ≡ slot_bytes (get_or slots j None)
 slot_in-fragment_bytes n k i j slots fair h =
     ap (take slot_length) (sym (drop-drop (j * slot_length) head_length (fragment_bytes n k i slots))) ∙ slot_of slots j fair h
 
@@ -58,7 +58,7 @@ first_rest (Ok s) (Err c) rs slots p e = let z : ◌≡◌ {A = ℕ} 0 1 = cc in
 first_rest (Err c) q rs slots p e = let z : ◌≡◌ {A = ℕ} 0 1 = cc in absurd (omega arith)
 
 -- slots that read in layout 2 are what is written for them
-slots_exact : (ws : List (List ℕ)) (slots : List (Option Filled)) → All (Bytes slot_length) ws → all_read (map (read_slot Two) ws) ≡ Ok slots → flat_map (λ w. w) ws ≡ flat_map slot_bytes slots
+slots_exact : (ws : List (List ℕ)) (slots : List (Option Filled)) → AllByRecursion (Bytes slot_length) ws → all_read (map (read_slot Two) ws) ≡ Ok slots → flat_map (λ w. w) ws ≡ flat_map slot_bytes slots
 slots_exact [] slots bytes e = ap (flat_map slot_bytes) (let n : [] ≡ slots = cc in n)
 slots_exact (w ∷ ws) slots bytes e =
     let p = first_rest (read_slot Two w) (all_read (map (read_slot Two) ws)) (map (read_slot Two) ws) slots refl e in

@@ -2,7 +2,7 @@
 use Rattle.std.proofs.Common.{◌≡◌, ℕ, ◌+◌, ◌*◌, ◌/◌, ◌%◌, ◌^◌, ◌<◌, List, [], ◌∷◌, length, get_or, arith}
 use native.Mathlib.Nat.{div-div-eq-div-mul, mod-add-div}
 use Rattle.std.proofs.ByRecursion.{All-get_or}
-use Rattle.std.specs.List.{AllByRecursion as All}
+use Rattle.std.specs.List.{AllByRecursion}
 use Rattle.fragment.specs.Words.{le2, le4, word2, word4}
 
 pub word2_le2 : (x : ℕ) → x < 2 ^ 16 → word2 (le2 x) 0 ≡ x
@@ -20,7 +20,7 @@ low : (b q y : ℕ) → b < 256 → q ≡ b + y * 256 → b ≡ q % 256
 low b q y h e = omega arith
 
 -- the bytes of a word are those of its number
-module _ (bs : List ℕ) (bytes : All (λ b. b < 256) bs) where
+module _ (bs : List ℕ) (bytes : AllByRecursion (λ b. b < 256) bs) where
   byte : (p : ℕ) → p < length bs → get_or bs p 0 < 256
   byte p h = All-get_or (λ b. b < 256) bs p 0 h bytes
 

@@ -1,6 +1,6 @@
 -- What holds of every fragment.
 use Rattle.std.specs.Prelude.{◌≡◌, ℕ, ◌+◌, ◌<◌, ◌≤◌, ◌⊎◌, List, [], ◌∷◌, length, Some, Ok, Err, Option, ◌≢◌, slice_index}
-use Rattle.std.specs.List.{AllByRecursion as All}
+use Rattle.std.specs.List.{AllByRecursion}
 use Rattle.geometry.specs.Sizes.{fragment_length, slot_length, slots_in_fragment, slot_place}
 use Rattle.fragment.specs.declared.cause.Cause.TheVariants.{BadLayout}
 use Rattle.fragment.specs.declared.layout.Layout.TheVariants.{One, Two}
@@ -20,7 +20,7 @@ ReadsBack =
 
 -- so many bytes
 abbrev pub Bytes : ℕ → List ℕ → Type 0
-Bytes size bs = (length bs ≡ size) × All (λ b. b < 256) bs
+Bytes size bs = (length bs ≡ size) × AllByRecursion (λ b. b < 256) bs
 
 -- two fragments of layout 2 that read to the same slots under one key and index are the same bytes
 abbrev pub OneForm : Type 0

@@ -4,7 +4,7 @@ use native.Mathlib.Nat.{div-div-eq-div-mul}
 use borrow.Author.Tests.{eqb-false}
 use Rattle.std.proofs.lemmas.Bool.Decides.{nat_tests}
 use Rattle.std.proofs.lemmas.List.{length_push}
-use Rattle.std.specs.List.{AllByRecursion as All}
+use Rattle.std.specs.List.{AllByRecursion}
 use Rattle.server.specs.declared.fault.ServerFault.{ServerFault}
 use Rattle.server.specs.declared.fault.ServerFault.TheVariants.{Absent}
 use Rattle.geometry.specs.Keys.{key_number, stripes}
@@ -22,7 +22,7 @@ use Rattle.log_server.proofs.Pieces.{find_map_of, length_map_of, map_of_push, ma
 use Rattle.log_server.proofs.Places.{has_place, place_within, find_none, find_place}
 use Rattle.log_server.proofs.Areas.{area_kept, kept_pieces, area_store, area_delete, area_wipe}
 
-least_small : (ps : List Piece) (k n : ℕ) → All IsPiece ps → key_in (least piece_key ps k) ≡ Some n → n < 8 * stripes
+least_small : (ps : List Piece) (k n : ℕ) → AllByRecursion IsPiece ps → key_in (least piece_key ps k) ≡ Some n → n < 8 * stripes
 least_small [] k n w e = let z : ◌≡◌ {A = ℕ} 0 1 = cc in absurd (omega arith)
 least_small (p ∷ ps) k n w e = let ih = least_small ps k n w.1 in let s = w.0.0 in grind (arith, nat_tests)
 

@@ -1,7 +1,7 @@
 -- The meaning of an area is that of a server, whatever its bytes are.
 use Rattle.std.specs.Prelude.{◌≡◌, ℕ, zero, suc, ◌+◌, ◌*◌, ◌^◌, ◌<◌, ◌≤◌, Bool, true, false, cond, ◌&&◌, List, [], ◌∷◌, map, length, take, drop, ◌==◌, nat_lt, slice_index, refl}
 use Rattle.std.proofs.Common.{arith, ltb-true}
-use Rattle.std.specs.List.{AllByRecursion as All}
+use Rattle.std.specs.List.{AllByRecursion}
 use Rattle.std.proofs.lemmas.Bool.{cond_both, and_parts}
 use Rattle.std.proofs.lemmas.List.{length-drop, length-take-le, length-map}
 use Rattle.geometry.specs.Keys.{is_key, stripes}
@@ -27,14 +27,14 @@ length_map_of : (ps : List Piece) → length (map_of ps) ≤ length ps
 length_map_of [] = omega arith
 length_map_of (p ∷ ps) = let ih = length_map_of ps in let l = length_put (map_of ps) p in omega arith
 
-all_put : (ps : List Piece) (p : Piece) → IsPiece p → All IsPiece ps → All IsPiece (put piece_key ps p)
+all_put : (ps : List Piece) (p : Piece) → IsPiece p → AllByRecursion IsPiece ps → AllByRecursion IsPiece (put piece_key ps p)
 all_put [] p h hs = (h, tt)
 all_put (q ∷ ps) p h hs =
-    cond_both (nat_lt q.0 p.0) (q ∷ put piece_key ps p) (cond (q.0 == p.0) (p ∷ ps) (p ∷ q ∷ ps)) (All IsPiece)
+    cond_both (nat_lt q.0 p.0) (q ∷ put piece_key ps p) (cond (q.0 == p.0) (p ∷ ps) (p ∷ q ∷ ps)) (AllByRecursion IsPiece)
     (λ _. (hs.0, all_put ps p h hs.1))
-    (λ _. cond_both (q.0 == p.0) (p ∷ ps) (p ∷ q ∷ ps) (All IsPiece) (λ _. (h, hs.1)) (λ _. (h, hs)))
+    (λ _. cond_both (q.0 == p.0) (p ∷ ps) (p ∷ q ∷ ps) (AllByRecursion IsPiece) (λ _. (h, hs.1)) (λ _. (h, hs)))
 
-all_map_of : (ps : List Piece) → All IsPiece ps → All IsPiece (map_of ps)
+all_map_of : (ps : List Piece) → AllByRecursion IsPiece ps → AllByRecursion IsPiece (map_of ps)
 all_map_of [] hs = tt
 all_map_of (p ∷ ps) hs = all_put (map_of ps) p hs.0 (all_map_of ps hs.1)
 
@@ -49,12 +49,12 @@ held_piece r l h =
     let f = ltb-true (stripe_in r) stripes d.1 in
     (omega arith, simp length-drop (omega arith))
 
-front_pieces : (n : ℕ) (xs : List ℕ) → record_length * n ≤ length xs → All IsPiece (map piece_in (front (records n xs)))
+front_pieces : (n : ℕ) (xs : List ℕ) → record_length * n ≤ length xs → AllByRecursion IsPiece (map piece_in (front (records n xs)))
 front_pieces zero xs l = tt
 front_pieces (suc n) xs l =
     let r : List ℕ = take record_length xs in
     let m : record_length * n ≤ length (drop record_length xs) = simp length-drop (omega arith) in
-    cond_both (is_held r) (r ∷ front (records n (drop record_length xs))) [] (λ (t : List (List ℕ)). All IsPiece (map piece_in t))
+    cond_both (is_held r) (r ∷ front (records n (drop record_length xs))) [] (λ (t : List (List ℕ)). AllByRecursion IsPiece (map piece_in t))
     (λ h. (held_piece r (length-take-le record_length xs (omega arith)) h, front_pieces n (drop record_length xs) m))
     (λ _. tt)
 
@@ -65,7 +65,7 @@ length_front (suc n) xs =
     cond_both (is_held (take record_length xs)) (take record_length xs ∷ front (records n (drop record_length xs))) [] (λ (t : List (List ℕ)). length t ≤ suc n) (λ _. omega arith) (λ _. omega arith)
 
 -- whether the area is in order or not
-sound_either : (b : Bool) (n : ℕ) (ps : List Piece) → n < 2 ^ 32 → length ps ≤ n → All IsPiece ps
+sound_either : (b : Bool) (n : ℕ) (ps : List Piece) → n < 2 ^ 32 → length ps ≤ n → AllByRecursion IsPiece ps
     → Sound (record { places = cond b n 0; held = map_of (cond b ps []) })
 sound_either true n ps s l w = record { few = (let m = length_map_of ps in omega arith); small = s; rises = rises_map ps; whole = all_map_of ps w }
 sound_either false n ps s l w = record { few = omega arith; small = omega arith; rises = refl; whole = tt }

@@ -2,7 +2,7 @@
 use Rattle.std.proofs.Common.{◌≡◌, ℕ, ◌+◌, ◌-◌, ◌<◌, ◌≤◌, List, [], length, get_or, take, drop, sym, ap, ◌∙◌, arith}
 use lib.Bits.{bit_xor}
 use lib.Lanes.{chunk}
-use Rattle.std.specs.List.{AllByRecursion as All}
+use Rattle.std.specs.List.{AllByRecursion}
 use Rattle.std.proofs.lemmas.List.{at_drop_more, at_drop_all, drop-replicate, take-replicate}
 use Rattle.std.proofs.ByRecursion.{All-drop, All-get_or}
 use Rattle.geometry.specs.Sizes.{fragment_length}
@@ -11,7 +11,7 @@ use Rattle.parity.proofs.Xors.{xored_assoc, xored_zeros, length-xor_all}
 use Rattle.parity.proofs.Zips.{chunk_zip2}
 
 -- one fragment more
-pub column_more : (i w : ℕ) (sum : List ℕ) (fs : List (List ℕ)) (k : ℕ) → All Long fs → k < length fs → xored (xored sum (chunk i w (get_or fs k []))) (chunk i w (xor_all (drop (k + 1) fs))) ≡ xored sum (chunk i w (xor_all (drop k fs)))
+pub column_more : (i w : ℕ) (sum : List ℕ) (fs : List (List ℕ)) (k : ℕ) → AllByRecursion Long fs → k < length fs → xored (xored sum (chunk i w (get_or fs k []))) (chunk i w (xor_all (drop (k + 1) fs))) ≡ xored sum (chunk i w (xor_all (drop k fs)))
 column_more i w sum fs k a h =
     let f : List ℕ = get_or fs k [] in
     let rest : List ℕ = xor_all (drop (k + 1) fs) in

@@ -1,7 +1,7 @@
 -- Exclusive or of fragments: its laws.
 use Rattle.std.proofs.Common.{◌≡◌, ℕ, zero, suc, ◌+◌, List, [], ◌∷◌, ◌++◌, length, get_or, take, drop, replicate, sym, refl, ap, ◌∙◌, arith}
 use lib.Bits.{bit_xor, xor_self, xor_assoc, xor_zero_r, xor_comm}
-use Rattle.std.specs.List.{AllByRecursion as All}
+use Rattle.std.specs.List.{AllByRecursion}
 use Rattle.std.proofs.lemmas.List.{take-append-drop, drop_more}
 use Rattle.std.proofs.lemmas.Simd.{length-zip2}
 use Rattle.std.proofs.ByRecursion.{All-append, All-take, All-drop, All-get_or}
@@ -58,19 +58,19 @@ same_from_nought f g l m e =
 
 -- ---- many fragments
 
-pub length-xor_all : (fs : List (List ℕ)) → All Long fs → Long (xor_all fs)
+pub length-xor_all : (fs : List (List ℕ)) → AllByRecursion Long fs → Long (xor_all fs)
 length-xor_all [] a = refl
 length-xor_all (f ∷ fs) a = length_xored f (xor_all fs) a.0 (length-xor_all fs a.1)
 
-pub xor_all-append : (fs gs : List (List ℕ)) → All Long gs → xor_all (fs ++ gs) ≡ xored (xor_all fs) (xor_all gs)
+pub xor_all-append : (fs gs : List (List ℕ)) → AllByRecursion Long gs → xor_all (fs ++ gs) ≡ xored (xor_all fs) (xor_all gs)
 xor_all-append [] gs a = sym (nought_xored (xor_all gs) (length-xor_all gs a))
 xor_all-append (f ∷ fs) gs a = ap (λ t. xored f t) (xor_all-append fs gs a) ∙ sym (xored_assoc f (xor_all fs) (xor_all gs))
 
-pub xor_all_swap : (fs gs : List (List ℕ)) → All Long fs → All Long gs → xor_all (fs ++ gs) ≡ xor_all (gs ++ fs)
+pub xor_all_swap : (fs gs : List (List ℕ)) → AllByRecursion Long fs → AllByRecursion Long gs → xor_all (fs ++ gs) ≡ xor_all (gs ++ fs)
 xor_all_swap fs gs a b = xor_all-append fs gs b ∙ xored_comm (xor_all fs) (xor_all gs) ∙ sym (xor_all-append gs fs a)
 
 -- going round, from any place, gives the same
-pub xor_all_rotated : (fs : List (List ℕ)) (p : ℕ) → All Long fs → xor_all (drop p fs ++ take p fs) ≡ xor_all fs
+pub xor_all_rotated : (fs : List (List ℕ)) (p : ℕ) → AllByRecursion Long fs → xor_all (drop p fs ++ take p fs) ≡ xor_all fs
 xor_all_rotated fs p a =
     xor_all_swap (drop p fs) (take p fs) (All-drop Long p fs a) (All-take Long p fs a) ∙ ap xor_all (take-append-drop p fs)
 

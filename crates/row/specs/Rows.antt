@@ -1,6 +1,6 @@
 -- The servers of a row by number.
 use Rattle.std.specs.Prelude.{ℕ, ◌-◌, ◌^◌, ◌<◌, ◌≤◌, min, List, [], ◌++◌, length, take, slice_index_or}
-use Rattle.std.specs.List.{AllByRecursion as All}
+use Rattle.std.specs.List.{AllByRecursion}
 use Rattle.std.proofs.ByRecursion.{All-append, All-take}
 use Rattle.server.specs.Meaning.{Meaning, Sound}
 
@@ -27,5 +27,5 @@ beside left right = take most left ++ right
 abbrev pub BySide : ℕ → (ℕ → Type 0) → (ℕ → Type 0) → ℕ → Type 0
 BySide n P Q s = (s < n → P s) × (n ≤ s → Q (s - n))
 
-pub beside_sound : (left right : List Meaning) → All Sound left → All Sound right → All Sound (beside left right)
+pub beside_sound : (left right : List Meaning) → AllByRecursion Sound left → AllByRecursion Sound right → AllByRecursion Sound (beside left right)
 beside_sound left right p q = All-append Sound (take most left) right (All-take Sound most left p) q

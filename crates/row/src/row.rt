@@ -1,7 +1,7 @@
 // A row of servers, numbered from 0. A number that is not in the row answers as a server with no
 // places does, and nothing is touched.
 ghost use Rattle.std.specs.Prelude.{◌≡◌, ℕ, ◌-◌, ◌^◌, min, List, length, slice_set};
-ghost use Rattle.std.specs.List.{AllByRecursion as All};
+ghost use Rattle.std.specs.List.{AllByRecursion};
 ghost use Rattle.geometry.specs.Keys.{number_of, number_in};
 ghost use Rattle.server.specs.Meaning.{Meaning, Sound, holds, key_from, free, fetched, store_answer, store_after, held_answer, delete_after, wipe_after};
 ghost use Rattle.row.specs.Rows.{at};
@@ -14,7 +14,7 @@ pub trait ServerRow {
     // The meanings of the servers, in order.
     ghost meanings: { Self → List Meaning };
 
-    ghost sound: { (r : Self) → All Sound (meanings r) };
+    ghost sound: { (r : Self) → AllByRecursion Sound (meanings r) };
 
     // What server s keeps inside beside its map agrees with it.
     ghost coherent: { Self → ℕ → Type 0 };

@@ -1,6 +1,6 @@
 -- Fragments fetched and put together.
 use Rattle.std.proofs.Common.{◌≡◌, ℕ, zero, suc, ◌+◌, ◌-◌, ◌<◌, Bool, true, false, cond, eqb, List, [], ◌∷◌, map, is_some, Some, None, Ok, Err, Option, Result, sym, refl, ap, ◌∙◌, arith, eq-eqb, ne_eqb, MatchResult}
-use Rattle.std.specs.List.{range_with_len, AllByRecursion as All}
+use Rattle.std.specs.List.{range_with_len, AllByRecursion}
 use Rattle.std.specs.Result.{result_and}
 use Rattle.ordered.specs.Maps.{find}
 use Rattle.parity.specs.Xor.{xored, nought, Long}
@@ -33,7 +33,7 @@ left_over m k a f e = left_from (find piece_key m.held k) a f e
 
 -- what is fetched is a fragment
 
-long_found : (ps : List Piece) (k : ℕ) → All IsPiece ps → Long (or_else (bytes_of (find piece_key ps k)) nought)
+long_found : (ps : List Piece) (k : ℕ) → AllByRecursion IsPiece ps → Long (or_else (bytes_of (find piece_key ps k)) nought)
 long_found [] k a = refl
 long_found (p ∷ ps) k a = by (eqb p.0 k) (long_found ps k a.1)
   where
@@ -41,17 +41,17 @@ long_found (p ∷ ps) k a = by (eqb p.0 k) (long_found ps k a.1)
     by true h = a.0.1
     by false h = h
 
-long_on : (row : List Meaning) (k s : ℕ) → All Sound row → Long (bytes_on row k s)
+long_on : (row : List Meaning) (k s : ℕ) → AllByRecursion Sound row → Long (bytes_on row k s)
 long_on [] k zero a = refl
 long_on [] k (suc s) a = refl
 long_on (m ∷ row) k zero a = long_found m.held k a.0.whole
 long_on (m ∷ row) k (suc s) a = long_on row k s a.1
 
-all_long : (row : List Meaning) (k : ℕ) (ss : List ℕ) → All Sound row → All Long (map (bytes_on row k) ss)
+all_long : (row : List Meaning) (k : ℕ) (ss : List ℕ) → AllByRecursion Sound row → AllByRecursion Long (map (bytes_on row k) ss)
 all_long row k [] a = tt
 all_long row k (s ∷ ss) a = (long_on row k s a, all_long row k ss a)
 
-pub long_together : (row : List Meaning) (k : ℕ) (ss : List ℕ) → All Sound row → Long (put_together row k ss)
+pub long_together : (row : List Meaning) (k : ℕ) (ss : List ℕ) → AllByRecursion Sound row → Long (put_together row k ss)
 long_together row k ss a = length-xor_all (map (bytes_on row k) ss) (all_long row k ss a)
 
 -- the other servers that are left, after this one

@@ -1,8 +1,7 @@
 -- Readings noted one after another.
-use Rattle.std.proofs.Common.{◌≡◌, ℕ, ◌+◌, ◌-◌, ◌<◌, Bool, true, false, cond, List, [], ◌∷◌, ◌++◌, get_or, take, drop, Some, None, Ok, Err, Option, Result, Ordering, Less, Equal, Greater, sym, refl, ap, ◌∙◌, subst, arith}
+use Rattle.std.proofs.Common.{◌≡◌, ℕ, ◌+◌, ◌-◌, ◌<◌, Bool, true, false, cond, List, [], ◌∷◌, ◌++◌, get_or, take, drop, Some, None, Ok, Err, Option, Result, Ordering, Less, Equal, Greater, inr, sym, refl, ap, ◌∙◌, subst, arith}
 use Rattle.std.specs.List.{range_with_len, flat_map}
 use Rattle.std.specs.Ordering.{eq_by_cmp, is_eq}
-use Rattle.std.proofs.lemmas.Map.Pairs.{lookup_head}
 use Rattle.geometry.specs.declared.key.Key.{Key}
 use Rattle.geometry.specs.Keys.{number_of, number_in}
 use Rattle.geometry.specs.Sizes.{head_length, delta_length}
@@ -19,7 +18,7 @@ use Rattle.workshop.specs.declared.newest.Newest.{Newest}
 use Rattle.workshop.specs.declared.newest.Noted.{Noted}
 use Rattle.workshop.specs.declared.tyre.TyreId.{TyreId}
 use Rattle.workshop.specs.Pressures.{kpa_in}
-use Rattle.workshop.specs.Tyres.{by_tyre}
+use Rattle.workshop.specs.Tyres.{by_tyre, says}
 use Rattle.workshop.specs.Readings.{noted_for, newer, NotedOnly}
 use Rattle.workshop.proofs.Notes.{exact}
 use Rattle.row_packing.specs.Readings.{Entry, entry_in, slot_entries, entries_in, newest_of, Appended}
@@ -27,17 +26,16 @@ use Rattle.row_packing.proofs.Counts.{left_more}
 
 -- ---- one reading
 
-apart : (q tyre : TyreId) (o : Ordering) → by_tyre.cmp q tyre ≡ o → is_eq o ≡ false → q ≡ tyre → ⊥
+apart : (q tyre : TyreId) (o : Ordering) → by_tyre q tyre ≡ o → is_eq o ≡ false → q ≡ tyre → ⊥
 apart q tyre o e f same =
-    let here : Bool → Type 0 = λ b. ◌≡◌ {A = Option ℕ} (cond b (Some 0) None) (Some 0) in
-    let not : ◌≡◌ {A = Option ℕ} None (Some 0) = subst here (ap (λ t. is_eq (by_tyre.cmp q t)) same ∙ ap is_eq e ∙ f) (lookup_head by_tyre q 0 [] []) in
-    let z : ◌≡◌ {A = ℕ} 0 1 = cc in
-    omega arith
+    let tie : Equal ≡ o = says q tyre Equal (inr (inr (ap (λ (t : TyreId). t.truck) same, ap (λ (t : TyreId). t.tyre) same))) ∙ e in
+    let no : true ≡ false = ap is_eq tie ∙ f in
+    cc
 
 one_noted : (m n : Newest) (tyre : TyreId) (new : Noted) → NotedOnly m n tyre new → Appended m n ((tyre, new) ∷ [])
-one_noted m n tyre new only q = by (by_tyre.cmp q tyre) refl
+one_noted m n tyre new only q = by (by_tyre q tyre) refl
   where
-    by : (o : Ordering) → by_tyre.cmp q tyre ≡ o → noted_for n q ≡ cond (is_eq o) (Some (newer (noted_for m q) new)) (noted_for m q)
+    by : (o : Ordering) → by_tyre q tyre ≡ o → noted_for n q ≡ cond (is_eq o) (Some (newer (noted_for m q) new)) (noted_for m q)
     by Equal e =
         let same = exact q tyre e in
         ap (noted_for n) same ∙ only.here ∙ ap (λ t. Some (newer (noted_for m t) new)) (sym same)

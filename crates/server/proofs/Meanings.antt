@@ -1,6 +1,6 @@
 -- The laws of meanings, from those of ordered maps.
 use Rattle.std.proofs.Common.{◌≡◌, ℕ, ◌+◌, ◌<◌, ◌≤◌, true, false, eqb, ltb, List, [], ◌∷◌, is_some, Some, None, Ok, Option, sym, refl, ap, ◌∙◌, ⊎_elim, arith}
-use Rattle.std.specs.List.{AllByRecursion as All}
+use Rattle.std.specs.List.{AllByRecursion}
 use Rattle.std.proofs.lemmas.Bool.Decides.{nat_tests}
 use Rattle.std.proofs.lemmas.Bool.{cond_both, cases_Bool, eqb-true, eqb-false}
 use Rattle.ordered.specs.Maps.{find, put, without, least}
@@ -79,16 +79,16 @@ from_is_none m k = (
   λ h. ap key_in (none_least piece_key m.held k (λ q l. not_some (find piece_key m.held q) (h q l))),
 )
 
-all_put : (ps : List Piece) (p : Piece) → IsPiece p → All IsPiece ps → All IsPiece (put piece_key ps p)
+all_put : (ps : List Piece) (p : Piece) → IsPiece p → AllByRecursion IsPiece ps → AllByRecursion IsPiece (put piece_key ps p)
 all_put [] p h a = (h, tt)
 all_put (x ∷ ps) p h a =
-    cond_both (ltb x.0 p.0) _ _ (All IsPiece)
+    cond_both (ltb x.0 p.0) _ _ (AllByRecursion IsPiece)
     (λ _. (a.0, all_put ps p h a.1))
-    (λ _. cond_both (eqb x.0 p.0) _ _ (All IsPiece) (λ _. (h, a.1)) (λ _. (h, a)))
+    (λ _. cond_both (eqb x.0 p.0) _ _ (AllByRecursion IsPiece) (λ _. (h, a.1)) (λ _. (h, a)))
 
-all_without : (ps : List Piece) (k : ℕ) → All IsPiece ps → All IsPiece (without piece_key ps k)
+all_without : (ps : List Piece) (k : ℕ) → AllByRecursion IsPiece ps → AllByRecursion IsPiece (without piece_key ps k)
 all_without [] k a = tt
-all_without (x ∷ ps) k a = cond_both (eqb x.0 k) _ _ (All IsPiece) (λ _. a.1) (λ _. (a.0, all_without ps k a.1))
+all_without (x ∷ ps) k a = cond_both (eqb x.0 k) _ _ (AllByRecursion IsPiece) (λ _. a.1) (λ _. (a.0, all_without ps k a.1))
 
 pub sound_stays : SoundStays
 sound_stays m s = (

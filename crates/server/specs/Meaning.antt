@@ -1,7 +1,7 @@
 -- What a server means: how many places it has, and what it holds, as pairs of a key's number and the fragment's bytes
 -- whose numbers rise. One meaning has one value, so that contracts are equations.
 use Rattle.std.specs.Prelude.{◌≡◌, ℕ, ◌-◌, ◌*◌, ◌^◌, ◌<◌, ◌≤◌, Bool, cond, List, [], length, Some, None, Ok, Err, Option, Result, ◌==◌}
-use Rattle.std.specs.List.{AllByRecursion as All}
+use Rattle.std.specs.List.{AllByRecursion}
 use Rattle.geometry.specs.Keys.{stripes}
 use Rattle.geometry.specs.Sizes.{fragment_length}
 use Rattle.ordered.specs.Maps.{find, has, put, without, least, Rises}
@@ -83,4 +83,4 @@ pub record Sound (m : Meaning) : Type 0 where
   pub few : length m.held ≤ m.places
   pub small : m.places < 2 ^ 32
   pub rises : Rises piece_key m.held
-  pub whole : All IsPiece m.held
+  pub whole : AllByRecursion IsPiece m.held

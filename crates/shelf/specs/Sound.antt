@@ -1,7 +1,7 @@
 -- A shelf's meaning is sound, by what its type keeps.
 use Rattle.std.specs.Prelude.{◌<◌, ◌≤◌, List, [], ◌∷◌, map, length, refl}
 use Rattle.std.proofs.Common.{arith, length-take}
-use Rattle.std.specs.List.{AllByRecursion as All}
+use Rattle.std.specs.List.{AllByRecursion}
 use Rattle.std.proofs.lemmas.List.{length-map}
 use Rattle.std.proofs.ByRecursion.{All-map}
 use Rattle.ordered.specs.declared.table.OrderedTable.{OrderedTable}
@@ -13,7 +13,7 @@ use Rattle.shelf.specs.declared.shelf.Shelf.{Shelf}
 use Rattle.shelf.specs.Places.{place_number, piece_of}
 use Rattle.shelf.specs.Shelves.{shelf_meaning}
 
-pieces : (ps : List ShelfPlace) → All (λ p. IsPiece (piece_of p)) ps
+pieces : (ps : List ShelfPlace) → AllByRecursion (λ p. IsPiece (piece_of p)) ps
 pieces [] = tt
 pieces (p ∷ ps) =
     let client : p.key.client < 8 = p.key.known in

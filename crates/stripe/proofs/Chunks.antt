@@ -1,6 +1,6 @@
 -- Lists joined of pieces of one length.
 use Rattle.std.proofs.Common.{◌≡◌, ℕ, zero, suc, ◌+◌, ◌*◌, ◌<◌, List, [], ◌∷◌, ◌++◌, length, get_or, take, drop, set, sym, ap, ◌∙◌, suc-mul, arith, take-add}
-use Rattle.std.specs.List.{flat_map, AllByRecursion as All}
+use Rattle.std.specs.List.{flat_map, AllByRecursion}
 use Rattle.std.proofs.lemmas.List.{take_at, drop_at, drop-drop, append_assoc}
 
 -- past a front of n elements
@@ -25,7 +25,7 @@ put_past p q y n m k e =
 
 module _ {A X : Type 0} (f : X → List A) (size : ℕ) where
   abbrev Even : List X → Type 0
-  Even = All (λ x. length (f x) ≡ size)
+  Even = AllByRecursion (λ x. length (f x) ≡ size)
 
   -- piece j
   pub joined_at : (xs : List X) (j : ℕ) (d : X) → Even xs → j < length xs → take size (drop (j * size) (flat_map f xs)) ≡ f (get_or xs j d)

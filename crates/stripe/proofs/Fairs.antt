@@ -1,6 +1,6 @@
 -- The test for a slot that can be written and read back.
 use Rattle.std.proofs.Common.{◌≡◌, true, List, [], ◌∷◌, refl, ltb-true, lt-ltb, eq-eqb, eqb-true}
-use Rattle.std.specs.List.{list_all, AllByRecursion as All}
+use Rattle.std.specs.List.{list_all, AllByRecursion}
 use Rattle.std.proofs.lemmas.Bool.{and_parts, and_from}
 use Rattle.fragment.specs.Slots.{Filled, Fair}
 use Rattle.stripe.specs.Buffers.{is_fair}
@@ -31,10 +31,10 @@ to_fair x f =
     let s = and_from _ _ v (lt-ltb _ _ f.some) in
     and_from _ _ (and_from _ _ s (eq-eqb _ _ f.long)) f.blank
 
-pub all_fair : (xs : List Filled) → list_all is_fair xs ≡ true → All Fair xs
+pub all_fair : (xs : List Filled) → list_all is_fair xs ≡ true → AllByRecursion Fair xs
 all_fair [] e = tt
 all_fair (x ∷ xs) e = let a = and_parts (is_fair x) (list_all is_fair xs) e in (fair_of x a.0, all_fair xs a.1)
 
-pub fair_all : (xs : List Filled) → All Fair xs → list_all is_fair xs ≡ true
+pub fair_all : (xs : List Filled) → AllByRecursion Fair xs → list_all is_fair xs ≡ true
 fair_all [] a = refl
 fair_all (x ∷ xs) a = and_from (is_fair x) (list_all is_fair xs) (to_fair x a.0) (fair_all xs a.1)

@@ -1,7 +1,7 @@
 -- A stripe with one slot more.
 use Rattle.std.proofs.Common.{◌≡◌, ℕ, zero, suc, ◌+◌, ◌*◌, ◌/◌, ◌%◌, ◌<◌, ◌≤◌, ◌≢◌, List, [], ◌∷◌, ◌++◌, map, length, get_or, drop, set, replicate, Some, None, Ok, sym, refl, ap, ◌∙◌, arith, length-set, get_or-set_other, get_or-set_same}
 use native.Mathlib.Decide.{dec_lt}
-use Rattle.std.specs.List.{range_with_len, flat_map, AllByRecursion as All}
+use Rattle.std.specs.List.{range_with_len, flat_map, AllByRecursion}
 use Rattle.std.proofs.lemmas.List.FromFn.{length-map-range_with_len, get_or-map-range_with_len, fill_by_all}
 use Rattle.std.proofs.ByRecursion.{All-push}
 use Rattle.std.proofs.lemmas.List.{length-append, drop_at}
@@ -41,20 +41,20 @@ slot_past [] m h = refl
 slot_past (x ∷ xs) zero h = absurd (omega arith)
 slot_past (x ∷ xs) (suc m) h = slot_past xs m (omega arith)
 
-pub slot_fair : (xs : List Filled) (m : ℕ) → All Fair xs → FairSlot (slot_at xs m)
+pub slot_fair : (xs : List Filled) (m : ℕ) → AllByRecursion Fair xs → FairSlot (slot_at xs m)
 slot_fair [] m a = tt
 slot_fair (x ∷ xs) zero a = a.0
 slot_fair (x ∷ xs) (suc m) a = slot_fair xs m a.1
 
 -- every slot has its length
-slot_long : (xs : List Filled) (m : ℕ) → All Fair xs → length (slot_bytes (slot_at xs m)) ≡ slot_length
+slot_long : (xs : List Filled) (m : ℕ) → AllByRecursion Fair xs → length (slot_bytes (slot_at xs m)) ≡ slot_length
 slot_long xs m a = length-slot_bytes (slot_at xs m) (slot_fair xs m a)
 
-pub slots_long : (xs : List Filled) (i : ℕ) → All Fair xs → All (λ s. length (slot_bytes s) ≡ slot_length) (slots_of xs i)
+pub slots_long : (xs : List Filled) (i : ℕ) → AllByRecursion Fair xs → AllByRecursion (λ s. length (slot_bytes s) ≡ slot_length) (slots_of xs i)
 slots_long xs i a = (slot_long xs (3 * i + 0) a, (slot_long xs (3 * i + 1) a, (slot_long xs (3 * i + 2) a, tt)))
 
 -- slot j of data fragment i
-bytes_there : (xs : List Filled) (i j : ℕ) → All Fair xs → j < 3 → slot_in (open_bytes xs i) j ≡ slot_bytes (slot_at xs (3 * i + j))
+bytes_there : (xs : List Filled) (i j : ℕ) → AllByRecursion Fair xs → j < 3 → slot_in (open_bytes xs i) j ≡ slot_bytes (slot_at xs (3 * i + j))
 bytes_there xs i j a h =
     part_past (replicate head_length 0) (flat_map slot_bytes (slots_of xs i)) head_length (j * slot_length) slot_length refl
     ∙ joined_at slot_bytes slot_length (slots_of xs i) j None (slots_long xs i a) h
@@ -79,7 +79,7 @@ set_slots xs x i (suc (suc zero)) h e =
     cc
 set_slots xs x i (suc (suc (suc j))) h e = absurd (omega arith)
 
-put_open : (xs : List Filled) (x : Filled) (i j : ℕ) → All Fair xs → j < 3 → 3 * i + j ≡ length xs → open_bytes (xs ++ x ∷ []) i ≡ put_slot j x (open_bytes xs i)
+put_open : (xs : List Filled) (x : Filled) (i j : ℕ) → AllByRecursion Fair xs → j < 3 → 3 * i + j ≡ length xs → open_bytes (xs ++ x ∷ []) i ≡ put_slot j x (open_bytes xs i)
 put_open xs x i j a h e =
     sym
     (put_past (replicate head_length 0) (flat_map slot_bytes (slots_of xs i)) (slot_bytes (Some x)) head_length (j * slot_length) slot_length refl
@@ -112,7 +112,7 @@ set_counted g h n i d v l e o =
     ])
 
 -- slot m of the stripe, as bytes, and read from them
-pub bytes_at_lem : (xs : List Filled) (m : ℕ) → All Fair xs → m < 21 → bytes_at (open_fragments xs) m ≡ slot_bytes (slot_at xs m)
+pub bytes_at_lem : (xs : List Filled) (m : ℕ) → AllByRecursion Fair xs → m < 21 → bytes_at (open_fragments xs) m ≡ slot_bytes (slot_at xs m)
 unfolding open_fragments
 bytes_at_lem xs m a h =
     let i : m / 3 < 7 = omega arith in
@@ -121,11 +121,11 @@ bytes_at_lem xs m a h =
     ∙ bytes_there xs (m / 3) (m % 3) a (omega arith)
     ∙ ap (λ t. slot_bytes (slot_at xs t)) e
 
-pub read_at : (xs : List Filled) (m : ℕ) → All Fair xs → m < 21 → read_slot Two (bytes_at (open_fragments xs) m) ≡ Ok (slot_at xs m)
+pub read_at : (xs : List Filled) (m : ℕ) → AllByRecursion Fair xs → m < 21 → read_slot Two (bytes_at (open_fragments xs) m) ≡ Ok (slot_at xs m)
 read_at xs m a h = ap (read_slot Two) (bytes_at_lem xs m a h) ∙ reads_slot (slot_at xs m) (slot_fair xs m a)
 
 -- the slots of a stripe, read from its bytes, are those that it was made of
-pub slots_back : (xs : List Filled) → All Fair xs → length xs ≤ 21 → slots_from (open_fragments xs) (length xs) ≡ xs
+pub slots_back : (xs : List Filled) → AllByRecursion Fair xs → length xs ≤ 21 → slots_from (open_fragments xs) (length xs) ≡ xs
 slots_back xs a few =
     sym
     (fill_by_all (λ j. slot_read (read_slot Two (bytes_at (open_fragments xs) j))) xs (length xs) no_slot refl
@@ -136,7 +136,7 @@ length_slots b = length-map-range_with_len (λ j. slot_read (read_slot Two (byte
 
 -- a filled slot of a stripe, as bytes, and read from them
 module _ (fragments : List (List ℕ)) (filled m : ℕ) (formed : Formed fragments filled)
-    (fair : All Fair (slots_from fragments filled)) (few : filled ≤ 21) (h : m < filled) where
+    (fair : AllByRecursion Fair (slots_from fragments filled)) (few : filled ≤ 21) (h : m < filled) where
   abbrev slots : List Filled
   slots = slots_from fragments filled
 
@@ -150,7 +150,7 @@ module _ (fragments : List (List ℕ)) (filled m : ℕ) (formed : Formed fragmen
   read_formed = ap (λ t. read_slot Two (bytes_at t m)) formed ∙ read_at slots m fair (omega arith) ∙ ap Ok there
 
 -- one slot more, in the place of the next
-one_more : (xs : List Filled) (x : Filled) (m : ℕ) → All Fair xs → m ≡ length xs → m < 21 → set (open_fragments xs) (m / 3) (put_slot (m % 3) x (get_or (open_fragments xs) (m / 3) [])) ≡ open_fragments (xs ++ x ∷ [])
+one_more : (xs : List Filled) (x : Filled) (m : ℕ) → AllByRecursion Fair xs → m ≡ length xs → m < 21 → set (open_fragments xs) (m / 3) (put_slot (m % 3) x (get_or (open_fragments xs) (m / 3) [])) ≡ open_fragments (xs ++ x ∷ [])
 unfolding open_fragments
 one_more xs x m a e h =
     let i : m / 3 < 7 = omega arith in
@@ -170,13 +170,13 @@ headed n k i xs fragments e h =
     ∙ ap (λ t. head_bytes n k i ++ t) (drop_at (replicate head_length 0) (flat_map slot_bytes (slots_of xs i)) head_length refl)
 
 -- and it reads back as the slots that it holds
-pub reads_again : (n k i : ℕ) (xs : List Filled) → i + 1 < n → All Fair xs → read_fragment n k i (data_bytes n k xs i) ≡ Ok (slots_of xs i)
+pub reads_again : (n k i : ℕ) (xs : List Filled) → i + 1 < n → AllByRecursion Fair xs → read_fragment n k i (data_bytes n k xs i) ≡ Ok (slots_of xs i)
 reads_again n k i xs h a =
     (reads_back n k i (slot_at xs (3 * i + 0)) (slot_at xs (3 * i + 1)) (slot_at xs (3 * i + 2)) h (slot_fair xs (3 * i + 0) a) (slot_fair xs (3 * i + 1) a) (slot_fair xs (3 * i + 2) a)).0
 
 -- what a stripe holds after a slot is written in the place of the next
 module _ (fragments after : List (List ℕ)) (m : ℕ) (x : Filled) (few : m < 21) (formed : Formed fragments m)
-    (fair : All Fair (slots_from fragments m)) (new : Fair x)
+    (fair : AllByRecursion Fair (slots_from fragments m)) (new : Fair x)
     (put : after ≡ set fragments (m / 3) (put_slot (m % 3) x (get_or fragments (m / 3) []))) where
   abbrev old : List Filled
   old = slots_from fragments m
@@ -186,7 +186,7 @@ module _ (fragments after : List (List ℕ)) (m : ℕ) (x : Filled) (few : m < 2
       put ∙ ap (λ t. set t (m / 3) (put_slot (m % 3) x (get_or t (m / 3) []))) formed
       ∙ one_more old x m fair (sym (length-map-range_with_len _ 0 m)) few
 
-  pub still_fair : All Fair (old ++ x ∷ [])
+  pub still_fair : AllByRecursion Fair (old ++ x ∷ [])
   still_fair = All-push Fair old x fair new
 
   pub slots_grown : slots_from after (m + 1) ≡ old ++ x ∷ []

@@ -1,7 +1,7 @@
 -- A stripe's fragments, server by server, are its pieces turned round.
 use Rattle.std.proofs.Common.{◌≡◌, ℕ, ◌+◌, ◌-◌, ◌<◌, ◌≤◌, List, [], ◌++◌, length, get_or, take, drop, sym, ap, ◌∙◌, arith, get_or-drop, get_or-take}
 use native.Mathlib.Decide.{dec_lt}
-use Rattle.std.specs.List.{AllByRecursion as All}
+use Rattle.std.specs.List.{AllByRecursion}
 use Rattle.std.proofs.lemmas.List.FromFn.{fill_by_all}
 use Rattle.std.proofs.ByRecursion.{All-append, All-take, All-drop}
 use Rattle.std.proofs.lemmas.List.{get_or_append_left, get_or-append_right, length-append, length-drop, length-take-le}
@@ -46,10 +46,10 @@ module _ (n k : ℕ) (ds : List (List ℕ)) (pos : 3 ≤ n) (many : length ds �
 
 pub missing_is_the_others : MissingIsTheOthers
 missing_is_the_others n k s ds pos many long h =
-    let all : All Long (pieces ds) = (length-xor_all ds long, long) in
+    let all : AllByRecursion Long (pieces ds) = (length-xor_all ds long, long) in
     let turn : ℕ = n - parity_server n k in
     let row = row_turned n k ds pos many in
-    let rowLong : All Long (drop turn (pieces ds) ++ take turn (pieces ds)) = All-append Long (drop turn (pieces ds)) (take turn (pieces ds)) (All-drop Long turn (pieces ds) all) (All-take Long turn (pieces ds) all) in
+    let rowLong : AllByRecursion Long (drop turn (pieces ds) ++ take turn (pieces ds)) = All-append Long (drop turn (pieces ds)) (take turn (pieces ds)) (All-drop Long turn (pieces ds) all) (All-take Long turn (pieces ds) all) in
     let clear : xor_all (drop turn (pieces ds) ++ take turn (pieces ds)) ≡ nought = xor_all_rotated (pieces ds) turn all ∙ parity_cancels ds long in
     ap (λ r. xor_all (take s r ++ drop (s + 1) r)) (sym row)
     ∙ one_from_the_others (drop turn (pieces ds) ++ take turn (pieces ds)) s rowLong clear (let l = length_turned n k ds pos many in omega arith)

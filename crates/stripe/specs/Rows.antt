@@ -1,6 +1,6 @@
 -- A stripe on its row: the parity and the data fragments, one to a server.
 use Rattle.std.specs.Prelude.{◌≡◌, ℕ, ◌+◌, ◌-◌, ◌<◌, ◌≤◌, List, [], ◌∷◌, ◌++◌, map, length, take, drop, slice_index_or}
-use Rattle.std.specs.List.{range_with_len, AllByRecursion as All}
+use Rattle.std.specs.List.{range_with_len, AllByRecursion}
 use Rattle.geometry.specs.Placement.{steps_on}
 use Rattle.parity.specs.Xor.{xor_all, Long}
 
@@ -20,5 +20,5 @@ stripe_row n k ds = map (fragment_on n k ds) (range_with_len 0 n)
 abbrev pub MissingIsTheOthers : Type 0
 MissingIsTheOthers =
     (n k s : ℕ) (ds : List (List ℕ))
-    → 3 ≤ n → length ds ≡ n - 1 → All Long ds → s < n
+    → 3 ≤ n → length ds ≡ n - 1 → AllByRecursion Long ds → s < n
     → xor_all (take s (stripe_row n k ds) ++ drop (s + 1) (stripe_row n k ds)) ≡ fragment_on n k ds s
