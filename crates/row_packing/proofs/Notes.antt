@@ -13,7 +13,7 @@ use Rattle.fragment.specs.declared.layout.Layout.{Layout}
 use Rattle.fragment.specs.Words.{zeros}
 use Rattle.fragment.specs.Slots.{Filled, read_slot, filled_in, kind_in, is_sound, delta_in, delta_of}
 use Rattle.fragment.specs.Heads.{read_head}
-use Rattle.fragment.specs.Fragments.{slot_in, and_then, all_read, slots_under, read_fragment, deltas_answer}
+use Rattle.fragment.specs.Fragments.{slot_in, all_read, slots_under, read_fragment, deltas_answer}
 use Rattle.workshop.specs.declared.newest.Newest.{Newest}
 use Rattle.workshop.specs.declared.newest.Noted.{Noted}
 use Rattle.workshop.specs.declared.tyre.TyreId.{TyreId}

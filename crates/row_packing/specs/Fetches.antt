@@ -1,5 +1,5 @@
 -- A stripe's fragment, fetched from its server or put together from the others.
-use Rattle.std.specs.Prelude.{ℕ, Bool, false, cond, List, [], ◌∷◌, map, Some, None, Ok, Err, Option, Result, ◌==◌}
+use Rattle.std.specs.Prelude.{ℕ, Bool, false, cond, List, [], ◌∷◌, map, Some, None, Ok, Option, Result, ◌==◌}
 use Rattle.std.specs.List.{range_with_len}
 use Rattle.std.specs.Result.{result_and}
 use Rattle.parity.specs.Xor.{xor_all, nought}

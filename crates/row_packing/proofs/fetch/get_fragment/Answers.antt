@@ -1,4 +1,4 @@
-use Rattle.std.proofs.Common.{◌≡◌, cond, sym, ap, ◌∙◌}
+use Rattle.std.proofs.Common.{cond, sym, ap, ◌∙◌}
 use Rattle.geometry.specs.Keys.{number_of}
 use Rattle.server.specs.Meaning.{held_answer}
 use Rattle.row.specs.Rows.{at}

@@ -1,4 +1,4 @@
-use Rattle.std.proofs.Common.{◌≡◌, refl, ap, ◌∙◌}
+use Rattle.std.proofs.Common.{refl, ap, ◌∙◌}
 use Rattle.geometry.specs.Keys.{number_of}
 use Rattle.server.specs.Meaning.{store_after}
 use Rattle.row.specs.Rows.{at}

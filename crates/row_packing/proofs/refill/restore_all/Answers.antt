@@ -1,5 +1,5 @@
-use Rattle.std.proofs.Common.{◌≡◌, sym, ap, ◌∙◌}
-use Rattle.geometry.specs.Keys.{number_of, key_number}
+use Rattle.std.proofs.Common.{ap, ◌∙◌}
+use Rattle.geometry.specs.Keys.{key_number}
 use Rattle.server.specs.Meaning.{store_after}
 use Rattle.row.specs.Rows.{at}
 use Rattle.row_packing.specs.Fetches.{others, put_together}

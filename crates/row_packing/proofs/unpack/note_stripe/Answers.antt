@@ -1,4 +1,4 @@
-use Rattle.std.proofs.Common.{◌≡◌, ℕ, ◌-◌, ◌<◌, List, ap, ◌∙◌, subst, arith}
+use Rattle.std.proofs.Common.{ℕ, ◌-◌, ◌<◌, List, ap, ◌∙◌, subst, arith}
 use Rattle.geometry.specs.Keys.{number_of}
 use Rattle.fragment.specs.Fragments.{read_fragment}
 use Rattle.row_packing.specs.Fetches.{fragment_in}

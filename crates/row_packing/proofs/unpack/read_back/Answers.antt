@@ -1,4 +1,4 @@
-use Rattle.std.proofs.Common.{◌≡◌, ℕ, List, ap, ◌∙◌, subst}
+use Rattle.std.proofs.Common.{List, ap, ◌∙◌, subst}
 use Rattle.geometry.specs.Keys.{number_of, key_number}
 use Rattle.row_packing.specs.Readings.{Entry, stripe_readings, Appended}
 use Rattle.row_packing.proofs.Notes.{notes_more, key_number_lem}

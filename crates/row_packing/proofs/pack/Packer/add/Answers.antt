@@ -1,4 +1,4 @@
-use Rattle.std.proofs.Common.{◌≡◌, ◌+◌, cond, [], ◌∷◌, ◌++◌, ap, ◌∙◌}
+use Rattle.std.proofs.Common.{◌+◌, cond, [], ◌∷◌, ◌++◌, ap, ◌∙◌}
 use Rattle.stripe.specs.Means.{slots_in}
 use Rattle.row_packing.specs.Packers.{slot_for}
 use Rattle.row_packing.proofs.Packers.{room_version}

@@ -1,4 +1,4 @@
-use Rattle.std.proofs.Common.{◌≡◌, ◌∙◌, arith, rules}
+use Rattle.std.proofs.Common.{◌∙◌, rules}
 use Rattle.geometry.specs.Keys.{key_number}
 use Rattle.stripe.specs.Means.{slots_in}
 use Rattle.row_packing.proofs.Notes.{key_number_lem}
