@@ -27,9 +27,9 @@ Agrees m ss = (k : ℕ) (bytes : List ℕ) → cached ss k ≡ Some bytes → by
 
 -- whether the meaning stays when what is cached under a key is let go: from the bytes that stand below and those cached
 abbrev pub spare_bytes : Option (List ℕ) → Option (List ℕ) → Bool
-spare_bytes None cachedBytes = true
+spare_bytes None cached_bytes = true
 spare_bytes (Some bytes) None = true
-spare_bytes (Some bytes) (Some cachedBytes) = bytes_eq cachedBytes bytes
+spare_bytes (Some bytes) (Some cached_bytes) = bytes_eq cached_bytes bytes
 
 abbrev pub is_spare : Meaning → List CacheSlot → ℕ → Bool
 is_spare m ss k = spare_bytes (bytes_under m k) (cached ss k)

@@ -34,7 +34,7 @@ head_exact n k i head l (long, bytes) two e =
     let all = and_parts (client && index && ltb (i + 1) n) (names_stripe k rest) fits.0 in
     let front = and_parts client index (and_parts (client && index) (ltb (i + 1) n) all.0).0 in
     let names = and_parts (eqb (word4 rest 0) (stripe_of k)) (zeros (drop 4 rest)) all.1 in
-    let restLong : length rest ≡ 28 = simp length-drop (omega arith) in
+    let rest_long : length rest ≡ 28 = simp length-drop (omega arith) in
     let stripe = le4_word4 rest (All-drop (λ b. b < 256) 4 head bytes) 0 (omega arith) ∙ ap le4 (eqb-true (word4 rest 0) (stripe_of k) names.0) in
     let blank : drop 4 rest ≡ replicate 24 0 = zeros_are 24 (drop 4 rest) (simp length-drop (omega arith)) names.1 in (
       (cc fits.1),

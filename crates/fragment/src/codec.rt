@@ -1,5 +1,5 @@
 // Reading and writing whole data fragments.
-ghost use Rattle.std.specs.Prelude.{◌≡◌, ◌<◌, ◌≤◌, ltb, ◌++◌, length, drop, if◌then◌else◌, MatchOption, nat_lt, slice_index};
+ghost use Rattle.std.specs.Prelude.{◌≡◌, ◌<◌, ◌≤◌, ◌++◌, length, drop, if◌then◌else◌, MatchOption, nat_lt, slice_index};
 ghost use Rattle.geometry.specs.Keys.{number_of};
 ghost use Rattle.geometry.specs.Sizes.{head_length, delta_length, block_length, slot_length, slots_in_fragment};
 ghost use Rattle.fragment.specs.Slots.{filled_with, read_slot, delta_answer};
@@ -92,7 +92,7 @@ pub fn set_head(fragment: &mut Fragment, row: RowLength, key: Key, index: u8)
 // where the fragment has no such slot.
 pub fn fill_slot(fragment: &mut Fragment, slot: usize, delta: &Delta, block: &Block) -> bool
     ensures known { result ≡ nat_lt slot slots_in_fragment }
-    ensures after { fragment.new ≡ (if ltb slot slots_in_fragment then put_slot slot (filled_with delta.now block.now) fragment.old else fragment.old) }
+    ensures after { fragment.new ≡ (if nat_lt slot slots_in_fragment then put_slot slot (filled_with delta.now block.now) fragment.old else fragment.old) }
     ensures only_the_slot { OnlyTheSlot }
 {
     if slot >= SLOTS_IN_FRAGMENT {

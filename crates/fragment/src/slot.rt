@@ -12,7 +12,7 @@
 // Numbers are stored low byte first. An empty slot is all zero, a trim's block is all zero, and a
 // filled slot has version 1 or more.
 ghost use Rattle.std.specs.Prelude.{◌≡◌, length, Some};
-ghost use Rattle.geometry.specs.Sizes.{delta_length, slot_length};
+ghost use Rattle.geometry.specs.Sizes.{slot_length};
 ghost use Rattle.fragment.specs.Slots.{delta_bytes, slot_bytes, filled_with, read_slot, delta_answer, kind_in, delta_in, rest_is_zero, content_fits, is_sound};
 
 use crate::cause::Cause;

@@ -47,12 +47,12 @@ module _ {X : Type 0} where
         let p : take (count + 1 - at) (drop at (set xs count e)) ≡ q ++ e ∷ [] =
         between_is (set xs count e) at (count + 1)
         ∙ (ap (drop at) (take_more_set xs count e lx) ∙ drop-append-le at (take count xs) (e ∷ []) (omega arith)) in
-        let part-is : part ≡ e ∷ q = turn ∙ (ap turned_right p ∙ turned_right_lem q e) in
+        let part_is : part ≡ e ∷ q = turn ∙ (ap turned_right p ∙ turned_right_lem q e) in
         let lq : length q ≡ count - at = length-drop at (take count xs) ∙ ap (λ k. k - at) l in
         let ls : length (set xs count e) ≡ length xs = length-set xs count e in
-        let lp : length part ≡ count - at + 1 = ap length part-is ∙ omega arith in
+        let lp : length part ≡ count - at + 1 = ap length part_is ∙ omega arith in
         take-put_mid at (count + 1 - at) (set xs count e) part (count + 1) (omega arith) (omega arith)
-        ∙ (ap (λ t. take at (set xs count e) ++ t) part-is
+        ∙ (ap (λ t. take at (set xs count e) ++ t) part_is
         ∙ (ap (λ t. t ++ e ∷ q) (take-set-le at xs count e la ∙ sym (take-take at count xs la))
         ∙ ap (λ t. insert t at e) (front_is len xs count is)))
 
@@ -63,10 +63,10 @@ module _ {X : Type 0} where
         let ys : List X = take count xs in
         let l : length ys ≡ count = length-take-le count xs lx in
         let rest : drop 1 (drop at ys) ≡ drop (suc at) ys = drop-drop 1 at ys ∙ ap (λ k. drop k ys) (add-one at) in
-        let part-is : part ≡ drop (suc at) ys ++ take 1 (drop at ys) =
+        let part_is : part ≡ drop (suc at) ys ++ take 1 (drop at ys) =
         turn ∙ (ap turned_left (between_is xs at count) ∙ ap (λ t. t ++ take 1 (drop at ys)) rest) in
         let whole : put_mid at (count - at) xs part ≡ remove ys at ++ (take 1 (drop at ys) ++ post_of at (count - at) xs) =
-        ap (λ t. take at xs ++ (t ++ post_of at (count - at) xs)) part-is
+        ap (λ t. take at xs ++ (t ++ post_of at (count - at) xs)) part_is
         ∙ (ap (λ t. t ++ ((drop (suc at) ys ++ take 1 (drop at ys)) ++ post_of at (count - at) xs)) (sym (take-take at count xs (omega arith)))
         ∙ simp append_assoc) in
         let lt : length (take at ys) ≡ at = length-take-le at ys (omega arith) in

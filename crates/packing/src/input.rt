@@ -1,5 +1,5 @@
 // Readings taken from lines of text.
-ghost use Rattle.std.specs.Prelude.{◌≡◌, cond, ◌&&◌, [], ◌∷◌, ◌++◌, Ok, MatchResult};
+ghost use Rattle.std.specs.Prelude.{◌≡◌, [], ◌∷◌, ◌++◌, Ok, MatchResult};
 ghost use Rattle.workshop.specs.declared.reading.Reading.{Reading};
 ghost use Rattle.workshop.specs.Lines.{read_line};
 

@@ -49,8 +49,8 @@ missing_is_the_others n k s ds pos many long h =
     let all : AllByRecursion Long (pieces ds) = (length-xor_all ds long, long) in
     let turn : ℕ = n - parity_server n k in
     let row = row_turned n k ds pos many in
-    let rowLong : AllByRecursion Long (drop turn (pieces ds) ++ take turn (pieces ds)) = All-append Long (drop turn (pieces ds)) (take turn (pieces ds)) (All-drop Long turn (pieces ds) all) (All-take Long turn (pieces ds) all) in
+    let row_long : AllByRecursion Long (drop turn (pieces ds) ++ take turn (pieces ds)) = All-append Long (drop turn (pieces ds)) (take turn (pieces ds)) (All-drop Long turn (pieces ds) all) (All-take Long turn (pieces ds) all) in
     let clear : xor_all (drop turn (pieces ds) ++ take turn (pieces ds)) ≡ nought = xor_all_rotated (pieces ds) turn all ∙ parity_cancels ds long in
     ap (λ r. xor_all (take s r ++ drop (s + 1) r)) (sym row)
-    ∙ one_from_the_others (drop turn (pieces ds) ++ take turn (pieces ds)) s rowLong clear (let l = length_turned n k ds pos many in omega arith)
+    ∙ one_from_the_others (drop turn (pieces ds) ++ take turn (pieces ds)) s row_long clear (let l = length_turned n k ds pos many in omega arith)
     ∙ turned_at n k ds pos many s h

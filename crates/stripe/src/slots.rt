@@ -1,5 +1,5 @@
 // The bytes of the data fragments of one stripe, and the writing of one slot among them.
-ghost use Rattle.std.specs.Prelude.{◌≡◌, ◌<◌, [], length, slice_index_or, slice_set};
+ghost use Rattle.std.specs.Prelude.{◌≡◌, ◌<◌, [], slice_index_or, slice_set};
 ghost use Rattle.geometry.specs.Sizes.{slots_in_fragment};
 ghost use Rattle.fragment.specs.Slots.{filled_with};
 ghost use Rattle.fragment.specs.Fragments.{put_slot};

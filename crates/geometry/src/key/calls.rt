@@ -1,5 +1,5 @@
 // Making keys and reading them back, and their order.
-ghost use Rattle.std.specs.Prelude.{◌≡◌, ◌*◌, ◌^◌, ltb, if◌then◌else◌, Some, None, nat_lt};
+ghost use Rattle.std.specs.Prelude.{◌≡◌, ◌*◌, ◌^◌, if◌then◌else◌, Some, None, nat_lt};
 ghost use Rattle.geometry.specs.Keys.{key_number, is_key, number_of, number_in};
 
 use crate::key::Key;
@@ -24,7 +24,7 @@ impl Key {
 
     // The key that has this number, if one has.
     pub fn from_number(number: u64) -> Option<Key>
-        ensures { number_in result ≡ (if ltb number (8 * 2 ^ 32) then Some number else None) }
+        ensures { number_in result ≡ (if nat_lt number (8 * 2 ^ 32) then Some number else None) }
     {
         Key::new(number / STRIPES, number % STRIPES)
     }

@@ -1,6 +1,5 @@
 // Making places, and their order by key.
 ghost use Rattle.std.specs.Prelude.{◌≡◌};
-ghost use Rattle.geometry.specs.Keys.{number_of};
 ghost use Rattle.shelf.specs.Places.{place_number};
 
 use crate::place::ShelfPlace;
