@@ -1,4 +1,4 @@
-// The same work as crates/bench/src/parity.rt in plain Rust: parity of 7 fragments of 512 bytes,
+// The same work as crates/bench/src/parity_rounds.rt in plain Rust: parity of 7 fragments of 512 bytes,
 // and a copy of the same bytes. Build: rustc -O bench/parity.rs -o target/parity_rust
 use std::hint::black_box;
 use std::time::Instant;

@@ -6,20 +6,12 @@ mod parity_rounds;
 
 use std::env;
 
-fn main(rt: HostRuntime) -> anyhow::Result<()> {
-    run(&rt)
-}
-
 // Whether the first argument asks for times.
 fn timed(rt: &HostRuntime) -> anyhow::Result<bool> {
-    match env::args(rt)?.nth(1) {
-        Some(word) => Ok(word.as_str() == "times"),
-        None => Ok(false),
-    }
+    let word = env::args(rt)?.nth(1);
+    Ok(word.is_some_and(|word| word.as_str() == "times"))
 }
 
-fn run(rt: &HostRuntime) -> anyhow::Result<()> {
-    let times = timed(rt)?;
-    parity_rounds::run(rt, times)?;
-    Ok(())
+fn main(rt: HostRuntime) -> anyhow::Result<()> {
+    Ok(parity_rounds::run(&rt, timed(&rt)?)?)
 }

@@ -1,20 +1,19 @@
 -- What a fetch from below, a store and a delete do to a cache, from what they do below and to the slots. C and D say that
 -- the server below is coherent before and after.
-use Rattle.std.proofs.Common.{◌≡◌, ℕ, ◌<◌, true, cond, List, length, is_ok, Some, None, Result, refl, ◌∙◌, arith}
+use Rattle.std.proofs.Common.{◌≡◌, ℕ, ◌<◌, true, cond, List, length, is_ok, Some, None, Option, Result, refl, ◌∙◌, arith}
 use Rattle.geometry.specs.Keys.{number_of}
 use Rattle.geometry.specs.declared.key.Key.{Key}
 use Rattle.ordered.proofs.Maps.{find_without_same, rises_without}
 use Rattle.server.specs.Meaning.{piece_key, Meaning, holds, bytes_under, fetched, store_answer, store_after, held_answer, delete_after, Sound}
-use Rattle.server.specs.declared.fault.ServerFault.{ServerFault}
-use Rattle.cache.specs.declared.kept.KeptFragment.{KeptFragment}
-use Rattle.cache.specs.declared.slots.CacheSlot.{CacheSlot}
+use Rattle.ordered.specs.declared.fault.MapFault.{MapFault}
+use Rattle.server.specs.declared.stored.StoredFragment.{StoredFragment}
 use Rattle.cache.specs.Slots.{cached, forgotten}
 use Rattle.cache.specs.Overlay.{overlaid, Agrees, keep_after}
 use Rattle.cache.proofs.Overlays.{holds_over, free_over, store_answer_over, held_answer_over, missed_fetched, delete_over, forget_absent, keep_same, put_over}
 use Rattle.cache.proofs.Agreement.{agrees_kept, cached_kept, agrees_stored, agrees_deleted}
 
-module _ {C D : Type 0} (m : Meaning) (sound : Sound m) (ss us : List CacheSlot) (u : Meaning) where
-  module _ (i : ℕ) (f : KeptFragment) {key : Key} {bytes : List ℕ} (old : List ℕ) where
+module _ {C D : Type 0} (m : Meaning) (sound : Sound m) (ss us : List (Option StoredFragment)) (u : Meaning) where
+  module _ (i : ℕ) (f : StoredFragment) {key : Key} {bytes : List ℕ} (old : List ℕ) where
     pub missed :
         f.key ≡ key → f.bytes ≡ bytes → i < length ss → cached ss (number_of key) ≡ None
         → holds m (number_of key) ≡ true → bytes ≡ fetched m (number_of key) old → u ≡ m → us ≡ keep_after m ss i f → (C → D)
@@ -31,7 +30,7 @@ module _ {C D : Type 0} (m : Meaning) (sound : Sound m) (ss us : List CacheSlot)
           (λ t. rw (w, ← k, ← b) (cached_kept m ss t i f l new)),
         )
 
-  module _ (k : ℕ) (r : Result (Unit {0}) ServerFault) (slots : us ≡ cond (is_ok r) (forgotten k ss) ss) (kept : C → D) where
+  module _ (k : ℕ) (r : Result (Unit {0}) MapFault) (slots : us ≡ cond (is_ok r) (forgotten k ss) ss) (kept : C → D) where
     pub stored :
         (bytes : List ℕ) → r ≡ store_answer m k → u ≡ store_after m k bytes
         → (r ≡ store_answer (overlaid ss m) k)

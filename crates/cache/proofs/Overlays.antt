@@ -7,15 +7,13 @@ use Rattle.geometry.specs.Keys.{number_of}
 use Rattle.ordered.specs.Maps.{find, put, least, Rises}
 use Rattle.ordered.proofs.Maps.{find_number, find_map, has_map, put_map, without_map, least_map, rises_map, same_from_finds}
 use Rattle.server.specs.Meaning.{Piece, piece_key, Meaning, holding, holds, key_in, key_from, free, bytes_under, or_else, fetched, store_answer, held_answer, delete_after}
-use Rattle.server.specs.declared.fault.ServerFault.TheVariants.{Absent}
-use Rattle.cache.specs.declared.kept.KeptFragment.{KeptFragment}
-use Rattle.cache.specs.declared.slots.CacheSlot.{CacheSlot}
-use Rattle.cache.specs.declared.slots.CacheSlot.TheVariants.{Empty, Kept}
+use Rattle.ordered.specs.declared.fault.MapFault.TheVariants.{Absent}
+use Rattle.server.specs.declared.stored.StoredFragment.{StoredFragment}
 use Rattle.cache.specs.Slots.{cached, forgotten, vacated, replaced}
 use Rattle.cache.specs.Overlay.{over, overlaid, is_spare, is_free, keep_after}
 use Rattle.cache.proofs.Cached.{forgotten_same, forgotten_other, vacated_none, replaced_same, replaced_other}
 
-module _ (ss : List CacheSlot) (m : Meaning) where
+module _ (ss : List (Option StoredFragment)) (m : Meaning) where
   same_key : (p : Piece) → piece_key (over ss p) ≡ piece_key p
   same_key p = refl
 
@@ -62,18 +60,18 @@ module _ (ss : List CacheSlot) (m : Meaning) where
 
 -- ---- changes of the cache that leave its meaning
 
-abbrev Spare : Meaning → List CacheSlot → ℕ → Type 0
+abbrev Spare : Meaning → List (Option StoredFragment) → ℕ → Type 0
 Spare m ss k = (bytes : List ℕ) → bytes_under m k ≡ Some bytes → or_else (cached ss k) bytes ≡ bytes
 
-spare_from : (m : Meaning) (ss : List CacheSlot) (k : ℕ) → is_spare m ss k ≡ true → Spare m ss k
+spare_from : (m : Meaning) (ss : List (Option StoredFragment)) (k : ℕ) → is_spare m ss k ≡ true → Spare m ss k
 spare_from m ss k t b e = let d = bytes_eq-Decides in grind arith
 
 module _ (m : Meaning) (rises : Rises piece_key m.held) where
-  rises_over : (ss : List CacheSlot) → Rises piece_key (overlaid ss m).held
+  rises_over : (ss : List (Option StoredFragment)) → Rises piece_key (overlaid ss m).held
   rises_over ss = rises_map piece_key piece_key (over ss) (same_key ss m) m.held rises
 
   overlaid_same :
-      (ss us : List CacheSlot)
+      (ss us : List (Option StoredFragment))
       → ((k : ℕ) (bytes : List ℕ) → bytes_under m k ≡ Some bytes → or_else (cached us k) bytes ≡ or_else (cached ss k) bytes)
       → overlaid us m ≡ overlaid ss m
   overlaid_same ss us h =
@@ -81,38 +79,38 @@ module _ (m : Meaning) (rises : Rises piece_key m.held) where
       (same_from_finds piece_key _ _ (rises_over us) (rises_over ss)
       (λ k. let n = find_number piece_key m.held k in let a = h k in find_over us m k ∙ grind arith ∙ sym (find_over ss m k)))
 
-  forget_same : (ss : List CacheSlot) (k : ℕ) → Spare m ss k → overlaid (forgotten k ss) m ≡ overlaid ss m
+  forget_same : (ss : List (Option StoredFragment)) (k : ℕ) → Spare m ss k → overlaid (forgotten k ss) m ≡ overlaid ss m
   forget_same ss k spare =
       overlaid_same ss (forgotten k ss)
       (λ q b e. let s = forgotten_same ss k in let o = forgotten_other ss k q in let p = spare b in grind arith)
 
   -- where the server does not hold the key
-  pub forget_absent : (ss : List CacheSlot) (k : ℕ) → holds m k ≡ false → overlaid (forgotten k ss) m ≡ overlaid ss m
+  pub forget_absent : (ss : List (Option StoredFragment)) (k : ℕ) → holds m k ≡ false → overlaid (forgotten k ss) m ≡ overlaid ss m
   forget_absent ss k h = forget_same ss k (λ b e. grind arith)
 
-  vacate_same : (ss : List CacheSlot) (s : CacheSlot) → is_free m ss s ≡ true → overlaid (vacated ss s) m ≡ overlaid ss m
-  vacate_same ss Empty v = refl
-  vacate_same ss (Kept f) v = forget_same ss (number_of f.key) (spare_from m ss (number_of f.key) v)
+  vacate_same : (ss : List (Option StoredFragment)) (s : Option StoredFragment) → is_free m ss s ≡ true → overlaid (vacated ss s) m ≡ overlaid ss m
+  vacate_same ss None v = refl
+  vacate_same ss (Some f) v = forget_same ss (number_of f.key) (spare_from m ss (number_of f.key) v)
 
   module _
-      (ss : List CacheSlot) (i : ℕ) (f : KeptFragment) (within : i < length ss)
+      (ss : List (Option StoredFragment)) (i : ℕ) (f : StoredFragment) (within : i < length ss)
       (new : cached ss (number_of f.key) ≡ None) (stands : bytes_under m (number_of f.key) ≡ Some f.bytes) where
-    replace_same : overlaid (replaced ss i f) m ≡ overlaid (vacated ss (get_or ss i Empty)) m
+    replace_same : overlaid (replaced ss i f) m ≡ overlaid (vacated ss (get_or ss i None)) m
     replace_same =
-        overlaid_same (vacated ss (get_or ss i Empty)) (replaced ss i f)
+        overlaid_same (vacated ss (get_or ss i None)) (replaced ss i f)
         (λ q b e.
-        let n = vacated_none ss (get_or ss i Empty) (number_of f.key) new in
+        let n = vacated_none ss (get_or ss i None) (number_of f.key) new in
         let s = replaced_same ss i f within new in
         let o = replaced_other ss i f q in
         grind arith)
 
     pub keep_same : overlaid (keep_after m ss i f) m ≡ overlaid ss m
-    keep_same = let v = vacate_same ss (get_or ss i Empty) in let r = replace_same in grind arith
+    keep_same = let v = vacate_same ss (get_or ss i None) in let r = replace_same in grind arith
 
   -- ---- a new key
 
   pub put_over :
-      (ss : List CacheSlot) (k : ℕ) (bytes : List ℕ) → holds m k ≡ false
+      (ss : List (Option StoredFragment)) (k : ℕ) (bytes : List ℕ) → holds m k ≡ false
       → overlaid (forgotten k ss) (holding m (put piece_key m.held (k, bytes)))
       ≡ holding m (put piece_key (overlaid ss m).held (k, bytes))
   put_over ss k bytes new =

@@ -2,7 +2,7 @@
 use Rattle.std.specs.Prelude.{◌≡◌, ℕ, List}
 use Rattle.geometry.specs.declared.key.Key.{Key}
 use Rattle.server.specs.Meaning.{Meaning}
-use Rattle.cache.specs.declared.kept.KeptFragment.{KeptFragment}
+use Rattle.server.specs.declared.stored.StoredFragment.{StoredFragment}
 use Rattle.cache.specs.declared.layer.Cache.{Cache}
 use Rattle.cache.specs.Overlay.{overlaid, Agrees, keep_after, turn_after}
 
@@ -21,7 +21,7 @@ module _ {S : Type 0} (meaning : S → Meaning) where
 
   -- after a fragment came from below: it has the place of the one whose turn it was to go, if that could go
   pub record Keeps (before : Cache S) (key : Key) (bytes : List ℕ) (after : Cache S) : Type 0 where
-    pub fragment : KeptFragment
+    pub fragment : StoredFragment
     pub of_key : fragment.key ≡ key
     pub of_bytes : fragment.bytes ≡ bytes
     pub placed : after.slots.all ≡ keep_after (meaning before.below) before.slots.all before.slots.turn fragment

@@ -1,18 +1,18 @@
 // The cache above its server. The server below says which keys are held, and every change goes through
 // to it. The bytes of a held key are the cached ones, if it is cached.
-ghost use Rattle.std.specs.Prelude.{◌≡◌, true, false, is_some, is_ok, if◌then◌else◌, Some, None};
+ghost use Rattle.std.specs.Prelude.{◌≡◌, true, false, is_some, is_ok, Some, None};
 ghost use Rattle.geometry.specs.Keys.{number_of};
 ghost use Rattle.server.specs.Meaning.{fetched, store_answer, store_after, held_answer, delete_after, wipe_after};
-ghost use Rattle.cache.specs.Slots.{cached, empty_slots, forgotten};
+ghost use Rattle.cache.specs.Slots.{cached, Forgets, IsFresh};
 ghost use Rattle.cache.specs.Layer.{means, AgreesBelow, Coheres, Keeps};
 ghost use Rattle.cache.specs.Overlay.{overlaid_sound};
 
-use crate::kept::KeptFragment;
 use crate::slots::CacheSlots;
 use geometry::key::Key;
 use geometry::sizes::Fragment;
-use server::fault::ServerFault;
+use ordered::fault::MapFault;
 use server::fragment_server::FragmentServer;
+use server::stored::StoredFragment;
 
 mod keeping;
 
@@ -27,8 +27,7 @@ impl<S: FragmentServer> Cache<S> {
     pub fn new(below: S) -> Cache<S>
         ensures below { result.below ≡ below }
         ensures meaning { means S.meaning result ≡ S.meaning below }
-        ensures empty { result.slots.all ≡ empty_slots }
-        ensures turn { result.slots.turn ≡ 0 }
+        ensures slots { IsFresh result.slots }
         ensures coherent { S.coherent below → Coheres S.meaning S.coherent result }
     {
         Cache {
@@ -38,6 +37,9 @@ impl<S: FragmentServer> Cache<S> {
     }
 }
 
+// A call that promises more than the trait's repeats its clauses, for callers of the cache itself.
+// That coherence is kept is one arrow, and what stands below one equation: names for them would be as
+// long.
 impl<S: FragmentServer> FragmentServer for Cache<S> {
     ghost meaning = { λ c. means S.FragmentServer.meaning c };
 
@@ -46,13 +48,12 @@ impl<S: FragmentServer> FragmentServer for Cache<S> {
     ghost coherent = { λ c. Coheres S.FragmentServer.meaning S.FragmentServer.coherent c };
 
     // Stores below. Where that is accepted, nothing stays cached under the key.
-    fn store(&mut self, key: Key, bytes: &Fragment) -> Result<(), ServerFault>
+    fn store(&mut self, key: Key, bytes: &Fragment) -> Result<(), MapFault>
         ensures answer { result ≡ store_answer (means S.meaning self.old) (number_of key) }
         ensures after { means S.meaning self.new ≡ store_after (means S.meaning self.old) (number_of key) bytes.now }
         ensures coherent { Coheres S.meaning S.coherent self.old → Coheres S.meaning S.coherent self.new }
         ensures below { S.meaning self.new.below ≡ store_after (S.meaning self.old.below) (number_of key) bytes.now }
-        ensures slots { self.new.slots.all ≡ (if is_ok result then forgotten (number_of key) self.old.slots.all else self.old.slots.all) }
-        ensures turn { self.new.slots.turn ≡ self.old.slots.turn }
+        ensures slots { Forgets (number_of key) (is_ok result) self.old.slots self.new.slots }
     {
         self.below.store(key, bytes)?;
         self.slots.forget(key); // Anything may have been cached, and would hide what was stored.
@@ -61,7 +62,8 @@ impl<S: FragmentServer> FragmentServer for Cache<S> {
 
     // Copies the cached bytes of a held key, and fetches nothing below. A held key that is not cached
     // is fetched below and kept: always, where what is cached equals what stands below.
-    fn fetch(&mut self, key: Key, out: &mut Fragment) -> Result<(), ServerFault>
+    #[tactic(auto, using(crate::proofs::Overlays::holds_over, crate::proofs::Overlays::absent_fetched, crate::proofs::Overlays::hit_fetched))]
+    fn fetch(&mut self, key: Key, out: &mut Fragment) -> Result<(), MapFault>
         ensures answer { result ≡ held_answer (means S.meaning self.old) (number_of key) }
         ensures copied { out.new ≡ fetched (means S.meaning self.old) (number_of key) out.old }
         ensures after { means S.meaning self.new ≡ means S.meaning self.old }
@@ -73,25 +75,24 @@ impl<S: FragmentServer> FragmentServer for Cache<S> {
         ensures kept { is_ok result ≡ true → AgreesBelow S.meaning self.old → cached self.new.slots.all (number_of key) ≡ Some out.new }
     {
         if !self.below.holds(key) {
-            return Err(ServerFault::Absent);
+            return Err(MapFault::Absent);
         }
         if let Some(bytes) = self.slots.find(key) {
             *out = *bytes;
             return Ok(());
         }
         self.below.fetch(key, out)?;
-        self.keep(KeptFragment::new(key, out));
+        self.keep(StoredFragment { key, bytes: *out });
         Ok(())
     }
 
     // Deletes below. Where that is accepted, nothing stays cached under the key.
-    fn delete(&mut self, key: Key) -> Result<(), ServerFault>
+    fn delete(&mut self, key: Key) -> Result<(), MapFault>
         ensures answer { result ≡ held_answer (means S.meaning self.old) (number_of key) }
         ensures after { means S.meaning self.new ≡ delete_after (means S.meaning self.old) (number_of key) }
         ensures coherent { Coheres S.meaning S.coherent self.old → Coheres S.meaning S.coherent self.new }
         ensures below { S.meaning self.new.below ≡ delete_after (S.meaning self.old.below) (number_of key) }
-        ensures slots { self.new.slots.all ≡ (if is_ok result then forgotten (number_of key) self.old.slots.all else self.old.slots.all) }
-        ensures turn { self.new.slots.turn ≡ self.old.slots.turn }
+        ensures slots { Forgets (number_of key) (is_ok result) self.old.slots self.new.slots }
     {
         self.below.delete(key)?;
         self.slots.forget(key); // It would hide what is stored there next.
@@ -103,17 +104,18 @@ impl<S: FragmentServer> FragmentServer for Cache<S> {
         ensures after { means S.meaning self.new ≡ wipe_after (means S.meaning self.old) }
         ensures coherent { Coheres S.meaning S.coherent self.new }
         ensures below { S.meaning self.new.below ≡ wipe_after (S.meaning self.old.below) }
-        ensures slots { self.new.slots.all ≡ empty_slots }
-        ensures turn { self.new.slots.turn ≡ 0 }
+        ensures slots { IsFresh self.new.slots }
     {
         self.below.wipe();
         self.slots = CacheSlots::new();
     }
 
+    #[tactic(auto, using(crate::proofs::Overlays::holds_over))]
     fn holds(&mut self, key: Key) -> bool {
         self.below.holds(key)
     }
 
+    #[tactic(auto, using(crate::proofs::Overlays::from_over))]
     fn from(&mut self, key: Key) -> Option<Key> {
         self.below.from(key)
     }

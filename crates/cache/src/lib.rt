@@ -1,6 +1,5 @@
 // A cache of up to 4 fragments above any fragment server. It is a fragment server itself.
 #![tactic(auto)]
 
-mod kept;
 pub mod layer;
 mod slots;

@@ -2,21 +2,16 @@
 ghost use Rattle.std.specs.Prelude.{◌≡◌, ◌<◌, length};
 ghost use Rattle.cache.specs.Sizes.{slots_in_cache};
 
-use crate::kept::KeptFragment;
+use server::stored::StoredFragment;
 
 mod calls;
 
 pub const SLOTS: usize = 4;
 
-#[derive(Clone, Copy)]
-pub enum CacheSlot {
-    Empty,
-    Kept(KeptFragment),
-}
-
+// An array and whose turn it is, since memory is fixed here: no heap, and so no queue of std.
 #[derive(Clone, Copy)]
 pub struct CacheSlots {
-    all: [CacheSlot; SLOTS],
+    all: [Option<StoredFragment>; SLOTS],
     turn: usize,
     ghost long: { length all ≡ slots_in_cache },
     ghost within: { turn < slots_in_cache },

@@ -44,17 +44,42 @@ const STRIPES: [u32; 3] = [0, 0x01020304, 4294967295];
 
 const CLIENTS: [u8; 2] = [0, 7];
 
-// All combinations of the edges of a slot's fields.
-pub(crate) const SLOTS: usize = 5 * 6 * 3 * 3 * 3;
+// The first two values of a list that the test finds, each beside each.
+pub(crate) fn find_two<T: Copy, F: Fn(T, T) -> bool>(all: &[T], test: F) -> Option<(T, T)>
+    requires { F.IsAlwaysCallable test }
+{
+    all.iter().find_map(|left| {
+        let right = all.iter().find(|right| test(*left, **right))?;
+        Some((*left, *right))
+    })
+}
 
-pub(crate) fn edge_slot(case: usize) -> Slot {
-    Slot {
-        kind: KINDS[case % 5],
-        version: VERSIONS[case / 5 % 6],
-        file: NUMBERS[case / 30 % 3],
-        block: NUMBERS[case / 90 % 3],
-        moves: NUMBERS[case / 270 % 3],
+// The first slot that the test finds, of all combinations of the edges of a slot's fields.
+// Loops, here and below, since five iterators within one another are no plainer.
+pub(crate) fn find_slot<F: Fn(&Slot) -> bool>(test: F) -> Option<Slot>
+    requires { F.IsAlwaysCallable test }
+{
+    for moves in NUMBERS {
+        for block in NUMBERS {
+            for file in NUMBERS {
+                for version in VERSIONS {
+                    for kind in KINDS {
+                        let slot = Slot {
+                            kind,
+                            file,
+                            block,
+                            version,
+                            moves,
+                        };
+                        if test(&slot) {
+                            return Some(slot);
+                        }
+                    }
+                }
+            }
+        }
     }
+    None
 }
 
 // Whether layout 2 has a filled slot with these fields.
@@ -62,15 +87,30 @@ pub(crate) fn is_filled(slot: &Slot) -> bool {
     (slot.kind == 1 || slot.kind == 2) && slot.version >= 1
 }
 
-// All combinations of both layouts, rows of 3 to 8, indexes 0 to 8, and the edges of a key.
-pub(crate) const HEADS: usize = 2 * 6 * 9 * 2 * 3;
-
-pub(crate) fn edge_head(case: usize) -> Head {
-    Head {
-        layout: 1 + (case % 2) as u8,
-        row: 3 + (case / 2 % 6) as u8,
-        index: (case / 12 % 9) as u8,
-        client: CLIENTS[case / 108 % 2],
-        stripe: STRIPES[case / 216 % 3],
+// The first head that the test finds, of all combinations of both layouts, rows of 3 to 8, indexes 0
+// to 8, and the edges of a key.
+pub(crate) fn find_head<F: Fn(&Head) -> bool>(test: F) -> Option<Head>
+    requires { F.IsAlwaysCallable test }
+{
+    for stripe in STRIPES {
+        for client in CLIENTS {
+            for index in 0..=8 {
+                for row in 3..=8 {
+                    for layout in 1..=2 {
+                        let head = Head {
+                            layout,
+                            row,
+                            client,
+                            index,
+                            stripe,
+                        };
+                        if test(&head) {
+                            return Some(head);
+                        }
+                    }
+                }
+            }
+        }
     }
+    None
 }

@@ -1,4 +1,5 @@
 // Which keys and rows can be formed, and the order of keys.
+use crate::edges::find_two;
 use crate::model::order::{is_below, key};
 use geometry::key::Key;
 use geometry::row::RowLength;
@@ -41,75 +42,35 @@ fn numbers(key: Key) -> (u64, u64) {
     (u64::from(key.client()), u64::from(key.stripe()))
 }
 
-fn plain(key: Option<Key>) -> Option<(u64, u64)> {
-    match key {
-        Some(key) => Some(numbers(key)),
-        None => None,
-    }
-}
-
 fn disputed_key() -> Option<(u64, u64)> {
-    for case in 0..14 * 14 {
-        let client = EDGES[case / 14];
-        let stripe = EDGES[case % 14];
-        if plain(Key::new(client, stripe)) != key(client, stripe) {
-            return Some((client, stripe));
-        }
-    }
-    None
+    find_two(&EDGES, |client, stripe| {
+        Key::new(client, stripe).map(numbers) != key(client, stripe)
+    })
 }
 
 fn disputed_number() -> Option<u64> {
-    for number in NUMBERS {
-        if plain(Key::from_number(number)) != key(number / STRIPES, number % STRIPES) {
-            return Some(number);
-        }
-    }
-    None
-}
-
-// How many servers a row has that was asked for with this number, 0 where there is none.
-fn servers_for(servers: u64) -> u64 {
-    match RowLength::new(servers) {
-        Some(row) => u64::from(row.servers()),
-        None => 0,
-    }
+    NUMBERS.into_iter().find(|number| {
+        Key::try_from(*number).ok().map(numbers) != key(*number / STRIPES, *number % STRIPES)
+    })
 }
 
 fn disputed_row() -> Option<u64> {
-    for servers in EDGES {
-        let expected = if servers >= 3 && servers <= 8 {
-            servers
-        } else {
-            0
-        };
-        if servers_for(servers) != expected {
-            return Some(servers);
-        }
-    }
-    None
+    EDGES.into_iter().find(|servers| {
+        let expected = (3..=8).contains(servers).then_some(*servers);
+        RowLength::new(*servers).map(|row| u64::from(row.servers())) != expected
+    })
 }
 
 // Whether the keys of two numbers compare as the rules have it, where there are such keys.
 fn order_agrees(left: u64, right: u64) -> bool {
-    let Some(one) = Key::from_number(left) else {
+    let (Ok(one), Ok(other)) = (Key::try_from(left), Key::try_from(right)) else {
         return true;
     };
-    let Some(other) = Key::from_number(right) else {
-        return true;
-    };
-    one.number() == left && one.precedes(&other) == is_below(numbers(one), numbers(other))
+    u64::from(one) == left && one.precedes(&other) == is_below(numbers(one), numbers(other))
 }
 
 fn disputed_order() -> Option<(u64, u64)> {
-    for case in 0..9 * 9 {
-        let left = NUMBERS[case / 9];
-        let right = NUMBERS[case % 9];
-        if !order_agrees(left, right) {
-            return Some((left, right));
-        }
-    }
-    None
+    find_two(&NUMBERS, |left, right| !order_agrees(left, right))
 }
 
 #[test]

@@ -19,4 +19,6 @@ mod placing;
 #[cfg(test)]
 mod reading;
 #[cfg(test)]
+mod terms;
+#[cfg(test)]
 mod writing;

@@ -10,7 +10,7 @@ pub(crate) type Bytes = [u8; 512];
 pub(crate) type Content = [u8; 128];
 
 // What a head says. All but the stripe number have one byte.
-#[derive(Clone, Copy)]
+#[derive(Clone, Copy, PartialEq, Eq, Debug)]
 pub(crate) struct Head {
     pub layout: u8,
     pub row: u8,
@@ -19,8 +19,9 @@ pub(crate) struct Head {
     pub stripe: u32,
 }
 
-// What a slot says: kind 0 is an empty slot, 1 a write, 2 a trim.
-#[derive(Clone, Copy, PartialEq, Eq)]
+// What a slot says: kind 0 is an empty slot, 1 a write, 2 a trim. A number, since slots are built of
+// other kinds too.
+#[derive(Clone, Copy, PartialEq, Eq, Debug)]
 pub(crate) struct Slot {
     pub kind: u8,
     pub file: u16,
@@ -37,9 +38,6 @@ pub(crate) const EMPTY: Slot = Slot {
     moves: 0,
 };
 
-// What reading answers: the number of the first cause, or the three slots.
-#[derive(Clone, Copy, PartialEq, Eq)]
-pub(crate) enum Answer {
-    Refused(u8),
-    Slots([Slot; 3]),
-}
+// What reading answers: the three slots, or the first cause, by its number as in `read`, since the
+// model uses none of the code's enums.
+pub(crate) type Answer = Result<[Slot; 3], u8>;

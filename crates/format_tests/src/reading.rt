@@ -4,79 +4,45 @@ ghost use Rattle.std.specs.Prelude.{◌<◌};
 use crate::edges::*;
 use crate::model::{Answer, Bytes, EMPTY, Head, Slot, build, read};
 use crate::noise::noise;
-use fragment::cause::Cause;
+use crate::terms::name_of;
 use fragment::codec;
 use fragment::delta::Delta;
-use geometry::key::Key;
-use geometry::row::RowLength;
 
-fn plain_slot(delta: Option<Delta>) -> Slot {
-    match delta {
-        None => EMPTY,
-        Some(d) => Slot {
-            kind: d.kind.number(),
-            file: d.file,
-            block: d.block,
-            version: d.version,
-            moves: d.moves,
-        },
-    }
+fn plain(delta: Option<Delta>) -> Slot {
+    delta.map_or(EMPTY, Slot::from)
 }
 
-// The code's answer in the model's terms.
-fn plain(answer: Result<[Option<Delta>; 3], Cause>) -> Answer {
-    match answer {
-        Err(cause) => Answer::Refused(cause.number()),
-        Ok(deltas) => Answer::Slots([
-            plain_slot(deltas[0]),
-            plain_slot(deltas[1]),
-            plain_slot(deltas[2]),
-        ]),
-    }
-}
-
-// What the code answers. Where it has no such row or key that is 0, which is no cause.
-fn code_answer(bytes: &Bytes, wanted: &Head) -> Answer {
-    let Some(row) = RowLength::new(u64::from(wanted.row)) else {
-        return Answer::Refused(0);
-    };
-    let Some(key) = Key::new(u64::from(wanted.client), u64::from(wanted.stripe)) else {
-        return Answer::Refused(0);
-    };
-    plain(codec::read(bytes, row, key, wanted.index))
+// The code's answer in the model's terms, none where the code has no such row or key. Bytes and head
+// go apart, since the tests alter one of them and keep the other.
+fn code_answer(bytes: &Bytes, wanted: &Head) -> Option<Answer> {
+    let answer = codec::read(bytes, name_of(wanted)?);
+    Some(answer.map(|deltas| deltas.map(plain)).map_err(u8::from))
 }
 
 fn agree(bytes: &Bytes, wanted: &Head) -> bool {
-    code_answer(bytes, wanted) == read::answer(bytes, wanted)
+    code_answer(bytes, wanted) == Some(read::answer(bytes, wanted))
 }
 
 fn both_answer(bytes: &Bytes, wanted: &Head, answer: Answer) -> bool {
-    code_answer(bytes, wanted) == answer && agree(bytes, wanted)
+    code_answer(bytes, wanted) == Some(answer) && agree(bytes, wanted)
 }
 
 // Whether code and model agree on the fragment with any value at this place.
 fn agree_at(good: &Bytes, wanted: &Head, place: usize) -> bool
     requires { place < 512 }
 {
-    let mut bytes = *good;
-    for value in 0..=255 {
+    (0..=255).all(|value| {
+        let mut bytes = *good;
         bytes[place] = value;
-        if !agree(&bytes, wanted) {
-            return false;
-        }
-    }
-    true
+        agree(&bytes, wanted)
+    })
 }
 
-// The first byte of which some value is read in two ways.
+// The first byte of which some value is read in two ways. Head and slots go apart, since the tests
+// put several of the one beside the same other.
 fn disputed_byte(head: &Head, slots: &[Slot; 3]) -> Option<usize> {
     let good = build::fragment(head, slots, &noise(1));
-    for place in 0..512 {
-        if !agree_at(&good, head, place) {
-            return Some(place);
-        }
-    }
-    None
+    (0..512).find(|place| !agree_at(&good, head, *place))
 }
 
 // In layout 2 each kind of slot stands once in each place.
@@ -123,41 +89,31 @@ fn spoiled(good: &Bytes, first: usize, second: usize) -> Bytes {
 
 // Two places whose faults together do not have the cause of the first.
 fn disordered_places(good: &Bytes) -> Option<(usize, usize)> {
-    for case in 0..20 * 20 {
-        let first = FAULTS[case / 20];
-        let second = FAULTS[case % 20];
+    find_two(&FAULTS, |first, second| {
         let cause = cause_at(first.min(second));
-        if !both_answer(
-            &spoiled(good, first, second),
-            &LAYOUT_2,
-            Answer::Refused(cause),
-        ) {
-            return Some((first, second));
-        }
-    }
-    None
+        !both_answer(&spoiled(good, first, second), &LAYOUT_2, Err(cause))
+    })
 }
 
-// A row and an index beyond N − 2 that is not refused as cause 3, though the fragment has it.
+// Whether an index beyond N − 2 is refused as cause 3, though the fragment has it.
+fn index_agrees(row: u8, index: u8) -> bool {
+    let head = Head {
+        layout: 2,
+        row,
+        client: 3,
+        index,
+        stripe: 7,
+    };
+    let bytes = build::fragment(&head, &[WRITE, TRIM, EMPTY], &noise(1));
+    u32::from(index) + 2 <= u32::from(row) || both_answer(&bytes, &head, Err(3))
+}
+
+// A row and an index beyond its last that is read otherwise.
 fn index_beyond() -> Option<(u8, u8)> {
-    for row in 3..=8 {
-        for index in 0..=255 {
-            let head = Head {
-                layout: 2,
-                row,
-                client: 3,
-                index,
-                stripe: 7,
-            };
-            let bytes = build::fragment(&head, &[WRITE, TRIM, EMPTY], &noise(1));
-            if u32::from(index) + 2 > u32::from(row)
-                && !both_answer(&bytes, &head, Answer::Refused(3))
-            {
-                return Some((row, index));
-            }
-        }
-    }
-    None
+    (3..=8).find_map(|row| {
+        let index = (0..=255).find(|index| !index_agrees(row, *index))?;
+        Some((row, index))
+    })
 }
 
 #[test]
@@ -165,7 +121,7 @@ fn first_cause_named(rt: HostRuntime) {
     let slots = [WRITE, TRIM, EMPTY];
     let good = build::fragment(&LAYOUT_2, &slots, &noise(1));
     assert!(rt;
-        both_answer(&good, &LAYOUT_2, Answer::Slots(slots)),
+        both_answer(&good, &LAYOUT_2, Ok(slots)),
         "the fragment unspoiled"
     );
     assert_eq!(rt;
@@ -179,7 +135,7 @@ fn first_cause_named(rt: HostRuntime) {
 fn slots_agree(head: &Head, slots: &[Slot; 3], is_sound: bool) -> bool {
     let bytes = build::fragment(head, slots, &noise(1));
     if is_sound && head.layout == 2 {
-        both_answer(&bytes, head, Answer::Slots(*slots))
+        both_answer(&bytes, head, Ok(*slots))
     } else {
         agree(&bytes, head)
     }
@@ -192,33 +148,18 @@ fn slot_agrees(head: &Head, slot: Slot) -> bool {
         && slots_agree(head, &[EMPTY, EMPTY, slot], sound)
 }
 
-fn disputed_slot() -> Option<usize> {
-    for case in 0..SLOTS {
-        if !slot_agrees(&LAYOUT_1, edge_slot(case)) || !slot_agrees(&LAYOUT_2, edge_slot(case)) {
-            return Some(case);
-        }
-    }
-    None
+fn disputed_slot() -> Option<Slot> {
+    find_slot(|slot| !slot_agrees(&LAYOUT_1, *slot) || !slot_agrees(&LAYOUT_2, *slot))
 }
 
 // Whether code and model agree on a fragment where any head is asked for.
 fn head_agrees(head: &Head) -> bool {
     let bytes = build::fragment(head, &[WRITE, EMPTY, WRITE], &noise(1));
-    for other in 0..HEADS {
-        if !agree(&bytes, &edge_head(other)) {
-            return false;
-        }
-    }
-    true
+    find_head(|other| !agree(&bytes, other)).is_none()
 }
 
-fn disputed_head() -> Option<usize> {
-    for case in 0..HEADS {
-        if !head_agrees(&edge_head(case)) {
-            return Some(case);
-        }
-    }
-    None
+fn disputed_head() -> Option<Head> {
+    find_head(|head| !head_agrees(head))
 }
 
 #[test]
@@ -226,6 +167,6 @@ fn edges_of_fields(rt: HostRuntime) {
     assert_eq!(rt;
         (disputed_slot(), disputed_head()),
         (None, None),
-        "case of a slot; case of a head"
+        "slot; head"
     );
 }

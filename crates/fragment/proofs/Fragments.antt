@@ -7,7 +7,7 @@ use Rattle.geometry.specs.Sizes.{head_length, slot_length, slots_in_fragment, sl
 use Rattle.fragment.specs.declared.cause.Cause.{Cause}
 use Rattle.fragment.specs.declared.layout.Layout.{Layout}
 use Rattle.fragment.specs.declared.layout.Layout.TheVariants.{Two}
-use Rattle.fragment.specs.Words.{part}
+use Rattle.geometry.specs.Bytes.{part}
 use Rattle.fragment.specs.Slots.{Filled, FairSlot, slot_bytes, read_slot}
 use Rattle.fragment.specs.Heads.{head_bytes, layout_in, read_head}
 use Rattle.fragment.specs.Fragments.{fragment_bytes, slot_in, all_read, slots_under, read_fragment}
@@ -54,8 +54,8 @@ reads_fragment n k i a b c h fa fb fc =
 -- slots that are all read were read one by one
 first_rest : (r : Result (Option Filled) Cause) (q : Result (List (Option Filled)) Cause) (rs : List (Result (Option Filled) Cause)) (slots : List (Option Filled)) → all_read rs ≡ q → all_read (r ∷ rs) ≡ Ok slots → (s : Option Filled) × (ss : List (Option Filled)) × (r ≡ Ok s) × (all_read rs ≡ Ok ss) × (slots ≡ s ∷ ss)
 first_rest (Ok s) (Ok ss) rs slots p e = (s, ss, refl, p, (cc))
-first_rest (Ok s) (Err c) rs slots p e = let z : ◌≡◌ {A = ℕ} 0 1 = cc in absurd (omega arith)
-first_rest (Err c) q rs slots p e = let z : ◌≡◌ {A = ℕ} 0 1 = cc in absurd (omega arith)
+first_rest (Ok s) (Err c) rs slots p e = cc
+first_rest (Err c) q rs slots p e = cc
 
 -- slots that read in layout 2 are what is written for them
 slots_exact : (ws : List (List ℕ)) (slots : List (Option Filled)) → AllByRecursion (Bytes slot_length) ws → all_read (map (read_slot Two) ws) ≡ Ok slots → flat_map (λ w. w) ws ≡ flat_map slot_bytes slots
@@ -90,4 +90,4 @@ fragment_exact n k i xs slots bytes two e = go (read_head n k i (take head_lengt
         let head = head_exact n k i (take head_length xs) l (bytes_part 0 head_length fragment_length xs (omega arith) bytes) (ap layout_in (get_or-take head_length xs 0 0 (omega arith)) ∙ two) p in
         let read = slots_exact (slot_in xs 0 ∷ slot_in xs 1 ∷ slot_in xs 2 ∷ []) slots (slot 0 (omega arith), (slot 1 (omega arith), (slot 2 (omega arith), tt))) (ap (λ m. slots_under xs (Ok m)) (sym head.0) ∙ e) in
         parts ∙ (λ t. head.1 t ++ read t)
-    go (Err c) p e = let z : ◌≡◌ {A = ℕ} 0 1 = cc in absurd (omega arith)
+    go (Err c) p e = cc

@@ -9,7 +9,7 @@ use Rattle.geometry.specs.Keys.{client_of, stripe_of}
 use Rattle.fragment.specs.declared.cause.Cause.TheVariants.{BadRow, BadHead}
 use Rattle.fragment.specs.declared.layout.Layout.{Layout}
 use Rattle.fragment.specs.declared.layout.Layout.TheVariants.{Two}
-use Rattle.fragment.specs.Words.{le4, word4, zeros}
+use Rattle.geometry.specs.Bytes.{le4, word4, zeros}
 use Rattle.fragment.specs.Heads.{head_bytes, layout_in, names_stripe, head_fits, head_of, read_head}
 use Rattle.fragment.specs.Laws.{Bytes}
 use Rattle.fragment.proofs.Parts.{passed, zeros_are, listed}

@@ -20,7 +20,7 @@ one_form n k i xs ys slots bx by lx ly rx ry = fragment_exact n k i xs slots bx 
 pub older_slots : OlderSlots
 older_slots w x e =
     elim (slot_cases One w (Some x) e) [
-      | inl z ↦ (let n : ◌≡◌ {A = ℕ} 0 1 = cc z.1 in absurd (omega arith))
+      | inl z ↦ (cc z.1)
       | inr f ↦ (let same : x ≡ record { delta = delta_in One f.kind w; bytes = drop 32 w } = cc f.is in
           (ap (λ (y : Filled). y.delta.version) same, ap (λ (y : Filled). y.delta.moves) same))
     ]

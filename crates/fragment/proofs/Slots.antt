@@ -12,7 +12,7 @@ use Rattle.fragment.specs.declared.delta.Kind.{Kind}
 use Rattle.fragment.specs.declared.delta.Kind.TheVariants.{Write, Trim}
 use Rattle.fragment.specs.declared.delta.Delta.{Delta}
 use Rattle.fragment.specs.Numbers.{kind_number}
-use Rattle.fragment.specs.Words.{word4, part, zeros}
+use Rattle.geometry.specs.Bytes.{word4, part, zeros}
 use Rattle.fragment.specs.Slots.{Filled, Fair, FairSlot, delta_bytes, slot_bytes, kind_in, delta_in, rest_is_zero, content_fits, is_sound, filled_in, read_slot}
 use Rattle.fragment.specs.Laws.{Bytes}
 use Rattle.fragment.proofs.Words.{word2_le2, word4_le4, le2_word2, le4_word4}
@@ -52,7 +52,7 @@ pub record IsFilled (l : Layout) (w : List ℕ) (s : Option Filled) : Type 0 whe
   pub is : s ≡ Some (record { delta = delta_in l kind w; bytes = drop delta_length w })
 
 filled_from : (l : Layout) (w : List ℕ) (s : Option Filled) (o : Option Kind) → kind_in l (get_or w 0 0) ≡ o → filled_in l w o ≡ Ok s → IsFilled l w s
-filled_from l w s None n e = let z : ◌≡◌ {A = ℕ} 0 1 = cc in absurd (omega arith)
+filled_from l w s None n e = cc
 filled_from l w s (Some k) n e =
     let p = passed (is_sound l k w) (Ok (Some (record { delta = delta_in l k w; bytes = drop delta_length w }))) BadSlot s e in
     record { kind = k; named = n; sound = p.0; is = (cc p.1) }

@@ -3,7 +3,7 @@ use Rattle.std.proofs.Common.{◌≡◌, ℕ, ◌+◌, ◌*◌, ◌/◌, ◌%◌
 use native.Mathlib.Nat.{div-div-eq-div-mul, mod-add-div}
 use Rattle.std.proofs.ByRecursion.{All-get_or}
 use Rattle.std.specs.List.{AllByRecursion}
-use Rattle.fragment.specs.Words.{le2, le4, word2, word4}
+use Rattle.geometry.specs.Bytes.{le2, le4, word2, word4}
 
 pub word2_le2 : (x : ℕ) → x < 2 ^ 16 → word2 (le2 x) 0 ≡ x
 word2_le2 x h = omega arith

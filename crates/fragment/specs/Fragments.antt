@@ -5,7 +5,7 @@ use Rattle.geometry.specs.Sizes.{head_length, slot_length, slots_in_fragment, sl
 use Rattle.fragment.specs.declared.cause.Cause.{Cause}
 use Rattle.fragment.specs.declared.layout.Layout.{Layout}
 use Rattle.fragment.specs.declared.delta.Delta.{Delta}
-use Rattle.fragment.specs.Words.{part}
+use Rattle.geometry.specs.Bytes.{part}
 use Rattle.fragment.specs.Slots.{Filled, slot_bytes, read_slot, delta_of}
 use Rattle.fragment.specs.Heads.{head_bytes, read_head}
 

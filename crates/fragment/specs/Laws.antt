@@ -4,7 +4,7 @@ use Rattle.std.specs.List.{AllByRecursion}
 use Rattle.geometry.specs.Sizes.{fragment_length, slot_length, slots_in_fragment, slot_place}
 use Rattle.fragment.specs.declared.cause.Cause.TheVariants.{BadLayout}
 use Rattle.fragment.specs.declared.layout.Layout.TheVariants.{One, Two}
-use Rattle.fragment.specs.Words.{word2}
+use Rattle.geometry.specs.Bytes.{word2}
 use Rattle.fragment.specs.Slots.{Filled, Fair, FairSlot, read_slot}
 use Rattle.fragment.specs.Heads.{layout_in}
 use Rattle.fragment.specs.Fragments.{fragment_bytes, read_fragment, put_slot}

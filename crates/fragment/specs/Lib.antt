@@ -1,4 +1,3 @@
-pub mod Words
 pub mod Numbers
 pub mod Pairs
 pub mod Slots

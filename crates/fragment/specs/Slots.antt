@@ -1,5 +1,5 @@
 -- A slot: a delta of 32 bytes, then the 128 bytes of a block.
-use Rattle.std.specs.Prelude.{◌≡◌, ℕ, ◌^◌, ◌<◌, ◌≤◌, Bool, true, cond, ◌&&◌, List, ◌∷◌, ◌++◌, length, drop, replicate, Some, None, Ok, Err, Option, Result, ◌==◌, nat_lt, slice_index}
+use Rattle.std.specs.Prelude.{◌≡◌, ℕ, ◌^◌, ◌<◌, ◌≤◌, Bool, true, if◌then◌else◌, ◌&&◌, List, ◌∷◌, ◌++◌, length, drop, replicate, Some, None, Ok, Err, Option, Result, ◌==◌, nat_lt, slice_index}
 use Rattle.geometry.specs.Sizes.{delta_length, block_length, slot_length}
 use Rattle.fragment.specs.declared.cause.Cause.{Cause}
 use Rattle.fragment.specs.declared.cause.Cause.TheVariants.{BadSlot}
@@ -9,7 +9,7 @@ use Rattle.fragment.specs.declared.delta.Kind.{Kind}
 use Rattle.fragment.specs.declared.delta.Kind.TheVariants.{Write, Trim}
 use Rattle.fragment.specs.declared.delta.Delta.{Delta}
 use Rattle.fragment.specs.Numbers.{kind_number}
-use Rattle.fragment.specs.Words.{le2, le4, word2, word4, part, zeros}
+use Rattle.geometry.specs.Bytes.{le2, le4, word2, word4, part, zeros}
 
 -- what a filled slot holds; a slot is empty (None) or filled
 pub record Filled : Type 0 where
@@ -37,8 +37,8 @@ filled_with d bytes = record { delta = d; bytes = content_of d.kind bytes }
 -- reading, in either layout
 
 abbrev pub kind_in : Layout → ℕ → Option Kind
-kind_in One b = cond (b == 1) (Some Write) None
-kind_in Two b = cond (b == 1) (Some Write) (cond (b == 2) (Some Trim) None)
+kind_in One b = if b == 1 then Some Write else None
+kind_in Two b = if b == 1 then Some Write else if b == 2 then Some Trim else None
 
 -- layout 1 has a version of two bytes where layout 2 has the moves
 abbrev pub delta_in : Layout → Kind → List ℕ → Delta
@@ -60,11 +60,11 @@ is_sound l k w = rest_is_zero l w && nat_lt 0 (delta_in l k w).version && conten
 abbrev pub filled_in : Layout → List ℕ → Option Kind → Result (Option Filled) Cause
 filled_in l w None = Err BadSlot
 filled_in l w (Some k) =
-    cond (is_sound l k w) (Ok (Some (record { delta = delta_in l k w; bytes = drop delta_length w }))) (Err BadSlot)
+    if is_sound l k w then Ok (Some (record { delta = delta_in l k w; bytes = drop delta_length w })) else Err BadSlot
 
 -- the slot that these bytes are, or that they break a rule of the layout
 abbrev pub read_slot : Layout → List ℕ → Result (Option Filled) Cause
-read_slot l w = cond (zeros w) (Ok None) (filled_in l w (kind_in l (slice_index w 0)))
+read_slot l w = if zeros w then Ok None else filled_in l w (kind_in l (slice_index w 0))
 
 -- what code answers for a slot: the delta alone, the block's bytes stay in the fragment
 abbrev pub delta_of : Option Filled → Option Delta

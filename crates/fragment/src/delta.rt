@@ -8,18 +8,15 @@ use crate::pair::Pair;
 
 #[derive(Clone, Copy, PartialEq, Eq, Debug)]
 pub enum Kind {
-    Write,
-    Trim,
+    Write = 1,
+    Trim = 2,
 }
 
-impl Kind {
-    pub fn number(&self) -> u8
-        ensures { result ≡ kind_number self.now }
-    {
-        match self {
-            Kind::Write => 1,
-            Kind::Trim => 2,
-        }
+impl From<Kind> for u8 {
+    ghost from_gives = { λ kind n. n ≡ kind_number kind };
+
+    fn from(kind: Kind) -> u8 {
+        kind as u8
     }
 }
 

@@ -7,9 +7,10 @@ ghost use Rattle.fragment.specs.Heads.{head_bytes, names_stripe, head_fits, read
 
 use crate::cause::Cause;
 use crate::layout::Layout;
-use crate::zeros::all_zero;
+use crate::name::FragmentName;
+use geometry::bytes::all_zero;
 use geometry::key::Key;
-use geometry::row::RowLength;
+use geometry::placement::PlacedStripe;
 
 // Whether the rest of a head, after its first four bytes, names the key's stripe and is zero after
 // that.
@@ -21,31 +22,35 @@ fn names_stripe(rest: &[u8], key: Key) -> bool
     u32::from_le_bytes([rest[0], rest[1], rest[2], rest[3]]) == key.stripe() && all_zero(zeros)
 }
 
-// Whether a head with this client, index and rest is that of data fragment `index` of this key.
-fn fits(client: u8, at: u8, rest: &[u8], row: RowLength, key: Key, index: u8) -> bool
+// Whether a head with this client, index and rest is that of the named fragment.
+fn fits(client: u8, at: u8, rest: &[u8], name: FragmentName) -> bool
     requires { length rest.now ≡ 28 }
-    ensures { result ≡ head_fits row.servers (number_of key) index client at rest.now }
+    ensures { result ≡ head_fits name.stripe.row.servers (number_of name.stripe.key) name.index client at rest.now }
 {
-    client == key.client() && at == index && index < row.servers() - 1 && names_stripe(rest, key)
+    let PlacedStripe { row, key } = name.stripe;
+    client == key.client()
+        && at == name.index
+        && name.index < row.data_fragments()
+        && names_stripe(rest, key)
 }
 
-// The layout of a fragment whose head is that of data fragment `index` of this key, or the first
-// cause why it is not.
-pub(crate) fn read_head(head: &[u8], row: RowLength, key: Key, index: u8) -> Result<Layout, Cause>
+// The layout of a fragment whose head is that of the named one, or the first cause why it is not.
+pub(crate) fn read_head(head: &[u8], name: FragmentName) -> Result<Layout, Cause>
     requires { length head.now ≡ head_length }
-    ensures { result ≡ read_head row.servers (number_of key) index head.now }
+    ensures { result ≡ read_head name.stripe.row.servers (number_of name.stripe.key) name.index head.now }
 {
     match head {
+        // The form is fixed (docs/DECISIONS.md): these parts of the slice, with cases on the layout.
         [layout, n, client, at, rest @ ..] => {
             let layout = match layout {
                 1 => Layout::One,
                 2 => Layout::Two,
                 _ => return Err(Cause::BadLayout),
             };
-            if *n != row.servers() {
+            if *n != name.stripe.row.servers() {
                 return Err(Cause::BadRow);
             }
-            if fits(*client, *at, rest, row, key, index) {
+            if fits(*client, *at, rest, name) {
                 Ok(layout)
             } else {
                 Err(Cause::BadHead)
@@ -55,14 +60,16 @@ pub(crate) fn read_head(head: &[u8], row: RowLength, key: Key, index: u8) -> Res
     }
 }
 
-// Writes the head of data fragment `index` of this key, in layout 2.
-pub(crate) fn write_head(head: &mut [u8], row: RowLength, key: Key, index: u8)
+// Writes the head of the named fragment, in layout 2.
+pub(crate) fn write_head(head: &mut [u8], name: FragmentName)
     requires { length head.old ≡ head_length }
-    ensures { head.new ≡ head_bytes row.servers (number_of key) index }
+    ensures { head.new ≡ head_bytes name.stripe.row.servers (number_of name.stripe.key) name.index }
 {
-    let layout = Layout::Two.number();
+    let PlacedStripe { row, key } = name.stripe;
+    let layout = u8::from(Layout::Two);
     let n = row.servers();
     let client = key.client();
+    let index = name.index;
     let [a, b, c, d] = key.stripe().to_le_bytes();
     head.copy_from_slice(&[
         layout, n, client, index, a, b, c, d, 0, 0, 0, 0, 0, 0, 0, 0, 0, 0, 0, 0, 0, 0, 0, 0, 0, 0,

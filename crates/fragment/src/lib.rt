@@ -5,8 +5,9 @@
 pub mod cause;
 pub mod codec;
 pub mod delta;
+pub mod fault;
 mod head;
 pub mod layout;
+pub mod name;
 pub mod pair;
 mod slot;
-mod zeros;

@@ -3,7 +3,7 @@
 ghost use Rattle.std.specs.Prelude.{◌≡◌};
 ghost use Rattle.fragment.specs.Pairs.{beats};
 
-#[derive(Clone, Copy, PartialEq, Eq, Debug)]
+#[derive(Clone, Copy, PartialEq, Eq, PartialOrd, Ord, Debug)]
 pub struct Pair {
     pub version: u32,
     pub moves: u16,
@@ -14,6 +14,6 @@ impl Pair {
     pub fn beats(&self, other: &Pair) -> bool
         ensures { result ≡ beats self.now other.now }
     {
-        self.version > other.version || (self.version == other.version && self.moves > other.moves)
+        self > other
     }
 }

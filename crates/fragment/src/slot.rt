@@ -18,13 +18,16 @@ ghost use Rattle.fragment.specs.Slots.{delta_bytes, slot_bytes, filled_with, rea
 use crate::cause::Cause;
 use crate::delta::{Delta, Kind};
 use crate::layout::Layout;
-use crate::zeros::all_zero;
+use geometry::bytes::all_zero;
 use geometry::sizes::{Block, DELTA_LENGTH, SLOT_LENGTH};
+
+// The bytes of one slot.
+pub(crate) type Slot = [u8; SLOT_LENGTH];
 
 fn delta_bytes(delta: &Delta) -> [u8; DELTA_LENGTH]
     ensures { result ≡ delta_bytes delta.now }
 {
-    let kind = delta.kind.number();
+    let kind = u8::from(delta.kind);
     let [f0, f1] = delta.file.to_le_bytes();
     let [b0, b1] = delta.block.to_le_bytes();
     let [m0, m1] = delta.moves.to_le_bytes();
@@ -36,7 +39,8 @@ fn delta_bytes(delta: &Delta) -> [u8; DELTA_LENGTH]
 }
 
 // Writes a filled slot of layout 2 over the whole of `out`, which is the slot's own part of a
-// larger area. A trim keeps no bytes.
+// larger area. A trim keeps no bytes. A slice: the slot's part is handed on (docs/DECISIONS.md).
+// A delta and its block stay two parameters, here and where slots are filled: callers have them apart.
 pub(crate) fn write_slot(out: &mut [u8], delta: &Delta, block: &Block)
     requires { length out.old ≡ slot_length }
     ensures { out.new ≡ slot_bytes (Some (filled_with delta.now block.now)) }
@@ -49,7 +53,8 @@ pub(crate) fn write_slot(out: &mut [u8], delta: &Delta, block: &Block)
     }
 }
 
-// The kind that a filled slot of this layout has under this byte.
+// The kind that a filled slot of this layout has under this byte. No `TryFrom`, which takes one value:
+// which bytes are kinds depends on the layout.
 fn kind_in(layout: Layout, byte: u8) -> Option<Kind>
     ensures { result ≡ kind_in layout byte }
 {
@@ -60,9 +65,10 @@ fn kind_in(layout: Layout, byte: u8) -> Option<Kind>
     }
 }
 
+// What follows are the steps of reading one slot, each of a layout and the slot's bytes.
+
 // The delta of a slot of this kind.
-fn delta_in(layout: Layout, kind: Kind, slot: &[u8]) -> Delta
-    requires { length slot.now ≡ slot_length }
+fn delta_in(layout: Layout, kind: Kind, slot: &Slot) -> Delta
     ensures { result ≡ delta_in layout kind slot.now }
 {
     let file = u16::from_le_bytes([slot[2], slot[3]]);
@@ -90,8 +96,7 @@ fn delta_in(layout: Layout, kind: Kind, slot: &[u8]) -> Delta
 }
 
 // Whether the bytes of a delta that have no use are zero.
-fn rest_is_zero(layout: Layout, slot: &[u8]) -> bool
-    requires { length slot.now ≡ slot_length }
+fn rest_is_zero(layout: Layout, slot: &Slot) -> bool
     ensures { result ≡ rest_is_zero layout slot.now }
 {
     let used = match layout {
@@ -112,8 +117,7 @@ fn content_fits(kind: Kind, block: &[u8]) -> bool
 }
 
 // Whether a slot of this kind keeps the rules of its layout.
-fn is_sound(layout: Layout, kind: Kind, slot: &[u8]) -> bool
-    requires { length slot.now ≡ slot_length }
+fn is_sound(layout: Layout, kind: Kind, slot: &Slot) -> bool
     ensures { result ≡ is_sound layout kind slot.now }
 {
     let (_, block) = slot.split_at(DELTA_LENGTH);
@@ -123,16 +127,13 @@ fn is_sound(layout: Layout, kind: Kind, slot: &[u8]) -> bool
 }
 
 // The delta of the slot that these bytes are, none for an empty slot, or that they break a rule.
-pub(crate) fn read_slot(slot: &[u8], layout: Layout) -> Result<Option<Delta>, Cause>
-    requires { length slot.now ≡ slot_length }
+pub(crate) fn read_slot(slot: &Slot, layout: Layout) -> Result<Option<Delta>, Cause>
     ensures { result ≡ delta_answer (read_slot layout slot.now) }
 {
     if all_zero(slot) {
         return Ok(None);
     }
-    let Some(kind) = kind_in(layout, slot[0]) else {
-        return Err(Cause::BadSlot);
-    };
+    let kind = kind_in(layout, slot[0]).ok_or(Cause::BadSlot)?;
     if is_sound(layout, kind, slot) {
         Ok(Some(delta_in(layout, kind, slot)))
     } else {

@@ -1,5 +1,5 @@
 -- Placement of a stripe on a row of n servers: the parity first, the data fragments on the servers after it, going round.
-use Rattle.std.specs.Prelude.{◌≡◌, ℕ, zero, suc, ◌+◌, ◌-◌, ◌%◌, ◌<◌, ◌≤◌, cond, Some, None, Option, nat_lt}
+use Rattle.std.specs.Prelude.{◌≡◌, ℕ, zero, suc, ◌+◌, ◌-◌, ◌%◌, ◌<◌, ◌≤◌, if◌then◌else◌, Some, None, Option, nat_lt}
 use Rattle.geometry.specs.declared.part.Part.{Part}
 use Rattle.geometry.specs.declared.part.Part.TheVariants.{Parity, Data}
 use Rattle.geometry.specs.Keys.{client_of, stripe_of}
@@ -28,7 +28,7 @@ part_at zero = Parity
 part_at (suc i) = Data i
 
 abbrev pub part_on : ℕ → ℕ → ℕ → Option Part
-part_on n k s = cond (nat_lt s n) (Some (part_at (steps_on n k s))) None
+part_on n k s = if nat_lt s n then Some (part_at (steps_on n k s)) else None
 
 -- what it is that p alone of the stripe's parts lies on server s
 pub record Lies (n k s : ℕ) (p : Part) : Type 0 where

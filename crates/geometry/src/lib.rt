@@ -2,6 +2,7 @@
 // of the row holds which part of it.
 #![tactic(auto)]
 
+pub mod bytes;
 pub mod key;
 pub mod part;
 pub mod placement;

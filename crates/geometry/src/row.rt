@@ -2,6 +2,7 @@
 ghost use Rattle.std.specs.Prelude.{◌≤◌};
 
 mod calls;
+mod counts;
 
 #[derive(Clone, Copy, PartialEq, Eq, Debug)]
 pub struct RowLength {

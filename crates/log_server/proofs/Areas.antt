@@ -1,15 +1,17 @@
 -- What an area means, from its records.
-use Rattle.std.proofs.Common.{◌≡◌, ℕ, zero, suc, ◌+◌, ◌-◌, ◌*◌, ◌/◌, ◌<◌, ◌≤◌, min, Bool, true, false, cond, ◌&&◌, eqb, List, [], ◌∷◌, ◌++◌, map, length, take, drop, replicate, Some, None, Option, sym, refl, ap, ◌∙◌, ⊎_elim, arith, MatchOption}
-use Rattle.std.proofs.lemmas.Bool.{cases_lt, eqb-true, and_parts, and_from, cond-true, cond-false}
+use Rattle.std.proofs.Common.{◌≡◌, ℕ, zero, suc, ◌+◌, ◌-◌, ◌*◌, ◌/◌, ◌%◌, ◌<◌, ◌≤◌, min, Bool, true, false, cond, ◌&&◌, List, [], ◌∷◌, ◌++◌, map, length, take, drop, replicate, Some, None, Option, sym, subst, refl, ap, ◌∙◌, ⊎_elim, arith, MatchOption, MutBor}
+use Rattle.std.proofs.lemmas.Bool.{cases_lt, and_parts, and_from, cond-true, cond-false}
 use Rattle.std.proofs.lemmas.List.{take_at, drop_at, length-map, length-append, map-append, length-take-le, length-drop, length-replicate, append_assoc, take_all, take-append-drop, drop-drop, replicate-append-replicate}
 use Rattle.std.specs.List.{list_all}
 use Rattle.ordered.specs.Maps.{has, without}
 use Rattle.server.specs.Meaning.{Piece, piece_key}
-use Rattle.log_server.specs.Records.{record_length, records, record_key, record_at, free_record, piece_in, is_held, zeros}
-use Rattle.log_server.specs.Area.{most_records, whole_records, records_of, pieces, front, rest, apart, in_order, area_pieces, area_places}
+use Rattle.geometry.specs.Bytes.{zeros}
+use Rattle.geometry.proofs.Parts.{zeros_are}
+use Rattle.log_server.specs.Records.{record_length, records, records_in, record_key, record_at, free_record, piece_in, is_held}
+use Rattle.log_server.specs.Area.{most_records, whole_records, records_of, pieces, pieces_in, front, rest, apart, in_order, area_pieces, area_places}
 use Rattle.log_server.specs.Calls.{with_record, without_record, wiped}
 use Rattle.log_server.specs.Walks.{place_of}
-use Rattle.log_server.proofs.Cuts.{length_records, length_pieces, records_add, records_append, records_join, records_head, records_take, records_cons}
+use Rattle.log_server.proofs.Cuts.{length_records, length_pieces, records_in_take, pieces_in_take, records_add, records_append, records_join, records_head, records_take, records_cons}
 use Rattle.log_server.proofs.Places.{place_within, without_at}
 use Rattle.log_server.proofs.Pieces.{apart_push, apart_without}
 use Rattle.log_server.proofs.Fronts.{front_rest, front_held, front_of, rest_of, all_join, all_parts, zeros_records}
@@ -87,42 +89,65 @@ kept_either xs false e =
 pub area_kept : (xs : List ℕ) → Kept xs
 area_kept xs = kept_either xs (in_order (records_of xs)) refl
 
+pub area_small : (xs : List ℕ) → area_places xs ≤ 4294967295
+area_small xs = (area_kept xs).small
+
+pub area_room : (xs : List ℕ) → record_length * area_places xs ≤ length xs
+area_room xs = (area_kept xs).room
+
+pub area_few : (xs : List ℕ) → length (area_pieces xs) ≤ area_places xs
+area_few xs = (area_kept xs).few
+
 pub kept_pieces : (xs : List ℕ) (h : ℕ) → h ≡ length (area_pieces xs) → pieces h xs ≡ area_pieces xs
 kept_pieces xs h e = ap (λ (n : ℕ). pieces n xs) e ∙ sym (area_kept xs).are
 
 -- ---- opening
 
 -- the two tests that opening makes
-pub order_is : (n h : ℕ) (xs : List ℕ) → h ≡ length (front (records n xs))
-    → in_order (records n xs) ≡ (zeros (take (record_length * n - record_length * h) (drop (record_length * h) xs)) && apart (pieces h xs))
-order_is n h xs e =
+pub order_is : (h : ℕ) (xs : List ℕ) → length xs % record_length ≡ 0 → h ≡ length (front (records_in xs))
+    → in_order (records_in xs) ≡ (zeros (drop (record_length * h) xs) && apart (pieces_in (take (record_length * h) xs)))
+order_is h xs whole e =
+    let n : ℕ = length xs / record_length in
     let f = parted n h xs (sym e) in
-    let m : record_length * (n - h) ≡ record_length * n - record_length * h = omega arith in
+    let ys : List ℕ = drop (record_length * h) xs in
+    let l = length-drop (record_length * h) xs in
+    let t : take (record_length * (n - h)) ys ≡ ys = take_all (record_length * (n - h)) ys (omega arith) in
     ap (λ (rs : List (List ℕ)). list_all zeros rs && apart (map piece_in (front (records n xs)))) (sym f.2)
-    ∙ ap (λ (rs : List (List ℕ)). list_all zeros (records (n - h) (drop (record_length * h) xs)) && apart (map piece_in rs)) (sym f.1)
-    ∙ ap (λ (b : Bool). b && apart (pieces h xs)) (sym (zeros_records (n - h) (drop (record_length * h) xs)) ∙ ap (λ (k : ℕ). zeros (take k (drop (record_length * h) xs))) m)
+    ∙ ap (λ (rs : List (List ℕ)). list_all zeros (records (n - h) ys) && apart (map piece_in rs)) (sym f.1)
+    ∙ ap (λ (b : Bool). b && apart (pieces h xs)) (sym (zeros_records (n - h) ys) ∙ ap zeros t)
+    ∙ ap (λ (ps : List Piece). zeros ys && apart ps) (sym (pieces_in_take h xs (omega arith)))
 
-open_either : (xs : List ℕ) (b : Bool) (o : Option ℕ) → in_order (records_of xs) ≡ b → o ≡ cond b (Some (length (front (records_of xs)))) None
-    → MatchOption o ((0 ≡ area_places xs) × (0 ≡ length (area_pieces xs))) (λ h. (whole_records xs ≡ area_places xs) × (h ≡ length (area_pieces xs)))
+open_either : (xs : List ℕ) (b : Bool) (o : Option ℕ) (p : ℕ × ℕ) → in_order (records_of xs) ≡ b → o ≡ cond b (Some (length (front (records_of xs)))) None
+    → MatchOption o (p ≡ (0, 0)) (λ h. p ≡ (whole_records xs, h)) → (p.0 ≡ area_places xs) × (p.1 ≡ length (area_pieces xs))
 unfolding area_pieces area_places
-open_either xs true None e q = let z : ◌≡◌ {A = ℕ} 0 1 = cc in absurd (omega arith)
-open_either xs true (Some h) e q =
+open_either xs true None p e q m = let z : ◌≡◌ {A = ℕ} 0 1 = cc in absurd (omega arith)
+open_either xs true (Some h) p e q m =
     let rs : List (List ℕ) = records_of xs in
     let f : h ≡ length (front rs) = cc in (
-      sym (cond-true (in_order rs) (whole_records xs) 0 e),
-      f ∙ sym (ap length (cond-true (in_order rs) (map piece_in (front rs)) [] e) ∙ length-map (front rs) piece_in),
+      ap (λ (t : ℕ × ℕ). t.0) m ∙ sym (cond-true (in_order rs) (whole_records xs) 0 e),
+      ap (λ (t : ℕ × ℕ). t.1) m ∙ f ∙ sym (ap length (cond-true (in_order rs) (map piece_in (front rs)) [] e) ∙ length-map (front rs) piece_in),
     )
-open_either xs false None e q =
-    let rs : List (List ℕ) = records_of xs in
-    (sym (cond-false (in_order rs) (whole_records xs) 0 e), sym (ap length (cond-false (in_order rs) (map piece_in (front rs)) [] e)))
-open_either xs false (Some h) e q = let z : ◌≡◌ {A = ℕ} 0 1 = cc in absurd (omega arith)
+open_either xs false None p e q m =
+    let rs : List (List ℕ) = records_of xs in (
+      ap (λ (t : ℕ × ℕ). t.0) m ∙ sym (cond-false (in_order rs) (whole_records xs) 0 e),
+      ap (λ (t : ℕ × ℕ). t.1) m ∙ sym (ap length (cond-false (in_order rs) (map piece_in (front rs)) [] e)),
+    )
+open_either xs false (Some h) p e q m = let z : ◌≡◌ {A = ℕ} 0 1 = cc in absurd (omega arith)
 
-pub open_counts : (xs : List ℕ) (n : ℕ) (o : Option ℕ) → n ≡ whole_records xs → o ≡ cond (in_order (records n xs)) (Some (length (front (records n xs)))) None
-    → MatchOption o ((0 ≡ area_places xs) × (0 ≡ length (area_pieces xs))) (λ h. (whole_records xs ≡ area_places xs) × (h ≡ length (area_pieces xs)))
-open_counts xs n o w e =
-    open_either xs (in_order (records_of xs)) o refl (e ∙ ap (λ (k : ℕ). cond (in_order (records k xs)) (Some (length (front (records k xs)))) None) w)
+-- the places and the pieces of an area that was opened
+pub open_counts : (xs : List ℕ) (n : ℕ) (o : Option ℕ) (p : ℕ × ℕ) → n ≡ whole_records xs
+    → o ≡ cond (in_order (records_in (take (record_length * n) xs))) (Some (length (front (records_in (take (record_length * n) xs))))) None
+    → MatchOption o (p ≡ (0, 0)) (λ h. p ≡ (n, h)) → (p.0 ≡ area_places xs) × (p.1 ≡ length (area_pieces xs))
+open_counts xs n o p w e m =
+    let r : records_in (take (record_length * n) xs) ≡ records_of xs = records_in_take n xs (omega arith) ∙ ap (λ (k : ℕ). records k xs) w in
+    open_either xs (in_order (records_of xs)) o p refl (e ∙ ap (λ (rs : List (List ℕ)). cond (in_order rs) (Some (length (front rs))) None) r)
+    (subst (λ (k : ℕ). MatchOption o (p ≡ (0, 0)) (λ h. p ≡ (k, h))) w m)
 
 -- ---- what a call leaves
+
+-- bytes that are written while they are out of their struct, said of what the struct held
+pub written : (f : List ℕ → ℕ → List ℕ) (taken held : MutBor (List ℕ)) (left : List ℕ) (h : ℕ) → taken ≡ held → h ≡ length (area_pieces held.now) → left ≡ f taken.now h → left ≡ f held.now (length (area_pieces held.now))
+written f taken held left h e p q = q ∙ ap (λ (b : MutBor (List ℕ)). f b.now h) e ∙ ap (f held.now) p
 
 in_order_lem : (xs : List ℕ) (b : Bool) → in_order (records_of xs) ≡ b → 0 < area_places xs → b ≡ true
 unfolding area_places
@@ -221,12 +246,6 @@ area_delete xs h i q eh found =
     (a.0 ∙ ps, a.1 ∙ sym o.whole)
 
 -- free records are zeros already
-zeros_are : (xs : List ℕ) → zeros xs ≡ true → xs ≡ replicate (length xs) 0
-zeros_are [] z = refl
-zeros_are (x ∷ xs) z =
-    let p = and_parts (eqb x 0) (zeros xs) z in
-    ap (λ (y : ℕ). y ∷ xs) (eqb-true x 0 p.0) ∙ ap (λ (ys : List ℕ). 0 ∷ ys) (zeros_are xs p.1)
-
 free_bytes : (xs : List ℕ) (h : ℕ) → h ≡ length (area_pieces xs)
     → drop (record_length * h) xs ≡ replicate (record_length * area_places xs - record_length * h) 0 ++ drop (record_length * area_places xs) xs
 free_bytes xs h e =
@@ -241,7 +260,7 @@ free_bytes xs h e =
     let b : record_length * h + m ≡ record_length * n = omega arith in
     let z : zeros (take m back) ≡ true = ap (λ (i : ℕ). zeros (take i back)) a ∙ zeros_records (whole_records xs - h) back ∙ o.free in
     let d = length-drop (record_length * h) xs in
-    let t : take m back ≡ replicate m 0 = zeros_are (take m back) z ∙ ap (λ (i : ℕ). replicate i 0) (length-take-le m back (omega arith)) in
+    let t : take m back ≡ replicate m 0 = zeros_are m (take m back) (length-take-le m back (omega arith)) z in
     sym (take-append-drop m back) ∙ ap (λ (ys : List ℕ). ys ++ drop m back) t
     ∙ ap (λ (ys : List ℕ). replicate m 0 ++ ys) (drop-drop m (record_length * h) xs ∙ ap (λ (i : ℕ). drop i xs) b))
     (λ l.

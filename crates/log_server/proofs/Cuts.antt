@@ -1,13 +1,19 @@
 -- Areas cut into records.
-use Rattle.std.proofs.Common.{◌≡◌, ℕ, zero, suc, ◌+◌, ◌-◌, ◌*◌, ◌<◌, ◌≤◌, List, ◌∷◌, ◌++◌, map, length, take, drop, sym, refl, ap, ◌∙◌, arith}
-use Rattle.std.proofs.lemmas.List.{drop-drop, drop_at, take_at, take-append-drop, length-take-le, drop-map, take-append-le, drop-append-le, length-drop, length-map, take_rest}
-use Rattle.log_server.specs.Records.{record_length, records, record_at, piece_in}
-use Rattle.log_server.specs.Area.{pieces}
+use Rattle.std.proofs.Common.{◌≡◌, ℕ, zero, suc, ◌+◌, ◌-◌, ◌*◌, ◌/◌, ◌<◌, ◌≤◌, List, [], ◌∷◌, ◌++◌, map, length, get_or, take, drop, sym, refl, ap, ◌∙◌, arith}
+use Rattle.std.proofs.lemmas.List.{get_or-map, take_more, drop_more, drop-drop, drop_at, take_at, take-append-drop, length-take-le, drop-map, take-append-le, drop-append-le, length-drop, length-map, take-map}
+use Rattle.std.specs.Simd.{first_chunks}
+use Rattle.log_server.specs.Records.{record_length, records, records_in, record_at, piece_in}
+use Rattle.log_server.specs.Area.{pieces, pieces_in}
 use Rattle.server.specs.Meaning.{Piece}
 
 pub length_records : (n : ℕ) (xs : List ℕ) → length (records n xs) ≡ n
 length_records zero xs = refl
 length_records (suc n) xs = ap suc (length_records n (drop record_length xs))
+
+-- records are what bytes are as arrays
+pub chunks_are : (n : ℕ) (xs : List ℕ) → first_chunks record_length n xs ≡ records n xs
+chunks_are zero xs = refl
+chunks_are (suc n) xs = ap (λ (t : List (List ℕ)). take record_length xs ∷ t) (chunks_are n (drop record_length xs))
 
 pub length_pieces : (n : ℕ) (xs : List ℕ) → length (pieces n xs) ≡ n
 length_pieces n xs = length-map (records n xs) piece_in ∙ length_records n xs
@@ -71,19 +77,44 @@ records_from (suc i) (suc n) xs l =
     ∙ ap (λ (t : List ℕ). take record_length t ∷ drop (i + 1) (records n ys)) (drop-drop (record_length * i) record_length xs ∙ ap (λ (k : ℕ). drop k xs) d)
     ∙ ap (λ (k : ℕ). record_at xs (suc i) ∷ drop k (records (suc n) xs)) e
 
+pub record_is : (i : ℕ) (xs d : List ℕ) → record_length * (i + 1) ≤ length xs → get_or (records_in xs) i d ≡ record_at xs i
+record_is i xs d l =
+    let c = length_records (length xs / record_length) xs in
+    ap (λ (t : List (List ℕ)). get_or t 0 d) (sym (drop_more (records_in xs) i d (omega arith)) ∙ records_from i (length xs / record_length) xs (omega arith))
+
 pub pieces_from : (i n : ℕ) (xs : List ℕ) → i < n → drop i (pieces n xs) ≡ piece_in (record_at xs i) ∷ drop (i + 1) (pieces n xs)
 pieces_from i n xs l =
     drop-map piece_in i (records n xs) ∙ ap (map piece_in) (records_from i n xs l) ∙ ap (λ (t : List Piece). piece_in (record_at xs i) ∷ t) (sym (drop-map piece_in (i + 1) (records n xs)))
 
--- the same, counted down
-pub pieces_back : (i n : ℕ) (xs : List ℕ) → 0 < i → i ≤ n → drop (i - 1) (pieces n xs) ≡ piece_in (record_at xs (i - 1)) ∷ drop i (pieces n xs)
-pieces_back i n xs l m =
-    let e : i - 1 + 1 ≡ i = omega arith in
-    pieces_from (i - 1) n xs (omega arith) ∙ ap (λ (k : ℕ). piece_in (record_at xs (i - 1)) ∷ drop k (pieces n xs)) e
+-- the first records of some
+pub take_records : (i n : ℕ) (xs : List ℕ) → i ≤ n → take i (records n xs) ≡ records i xs
+take_records i n xs l =
+    let e : i + (n - i) ≡ n = omega arith in
+    ap (take i) (records_add i (n - i) n xs e) ∙ take_at (records i xs) (records (n - i) (drop (record_length * i) xs)) i (length_records i xs)
 
--- the pieces from record i on, by the bytes from there on
-pub pieces_rest : (i m n s : ℕ) (xs : List ℕ) → i + m ≡ n → record_length * i ≡ s → pieces m (take (length xs - s) (drop s xs)) ≡ drop i (pieces n xs)
-pieces_rest i m n s xs e q =
-    ap (pieces m) (take_rest xs s ∙ ap (λ (k : ℕ). drop k xs) (sym q))
-    ∙ ap (map piece_in) (sym (drop_at (records i xs) (records m (drop (record_length * i) xs)) i (length_records i xs)) ∙ sym (ap (drop i) (records_add i m n xs e)))
-    ∙ sym (drop-map piece_in i (records n xs))
+pub records_in_take : (n : ℕ) (xs : List ℕ) → record_length * n ≤ length xs → records_in (take (record_length * n) xs) ≡ records n xs
+records_in_take n xs l =
+    let e = length-take-le (record_length * n) xs l in
+    let q : length (take (record_length * n) xs) / record_length ≡ n = omega arith in
+    ap (λ (k : ℕ). records k (take (record_length * n) xs)) q ∙ records_take n xs l
+
+pub pieces_in_take : (n : ℕ) (xs : List ℕ) → record_length * n ≤ length xs → pieces_in (take (record_length * n) xs) ≡ pieces n xs
+pieces_in_take n xs l = ap (map piece_in) (records_in_take n xs l)
+
+-- the pieces before record i, by the bytes before it
+pub pieces_before : (i : ℕ) (xs : List ℕ) → record_length * i ≤ length xs → pieces_in (take (record_length * i) xs) ≡ take i (pieces_in xs)
+pieces_before i xs l =
+    pieces_in_take i xs l ∙ ap (map piece_in) (sym (take_records i (length xs / record_length) xs (omega arith))) ∙ sym (take-map piece_in i (records_in xs))
+
+-- one more record of those that a walk is over
+pub records_next : (xs : List ℕ) (rs : List (List ℕ)) (i : ℕ) → rs ≡ records_in xs → i < length rs
+    → (record_length * i ≤ length xs) × (take (i + 1) (pieces_in xs) ≡ take i (pieces_in xs) ++ piece_in (get_or rs i []) ∷ [])
+records_next xs rs i e l =
+    let all : List (List ℕ) = records_in xs in
+    let m = ap length e in
+    let c = length_records (length xs / record_length) xs in
+    let p = length-map all piece_in in (
+      omega arith,
+      take_more (map piece_in all) i (piece_in []) (omega arith)
+          ∙ ap (λ (q : Piece). take i (map piece_in all) ++ q ∷ []) (get_or-map piece_in all i [] (piece_in []) (omega arith) ∙ ap (λ (t : List (List ℕ)). piece_in (get_or t i [])) (sym e)),
+    )

@@ -1,7 +1,8 @@
 -- The laws of areas, and the examples.
 use Rattle.std.proofs.Common.{◌≡◌, ℕ, ◌+◌, ◌-◌, ◌*◌, ◌<◌, ◌≤◌, false, cond, eqb, List, [], ◌++◌, map, length, take, drop, replicate, Some, None, Option, sym, refl, ap, ◌∙◌, arith}
 use Rattle.std.proofs.lemmas.Bool.{cond-false, cond_both, eqb-false}
-use Rattle.std.proofs.lemmas.List.{append_assoc, drop-drop, drop_at, length-append, length-take-le, length-drop, length-replicate}
+use Rattle.std.proofs.lemmas.Slice.{drop-append-drop}
+use Rattle.std.proofs.lemmas.List.{append_assoc, length-append, length-take-le, length-drop, length-replicate}
 use Rattle.geometry.specs.Keys.{key_number}
 use Rattle.server.specs.Meaning.{Piece, Meaning, holds, free}
 use Rattle.log_server.specs.Records.{record_length, free_record, held_record, piece_in}
@@ -26,19 +27,12 @@ reopens xs =
 
 -- ---- bytes after the records
 
--- after m bytes put in the place of m bytes
-past : (us xs : List ℕ) (m n : ℕ) → length us ≡ m → m ≤ n → drop n (us ++ drop m xs) ≡ drop n xs
-past us xs m n l h =
-    let e : m + (n - m) ≡ n = omega arith in
-    ap (λ (k : ℕ). drop k (us ++ drop m xs)) (sym e) ∙ sym (drop-drop (n - m) m (us ++ drop m xs))
-    ∙ ap (drop (n - m)) (drop_at us (drop m xs) m l) ∙ drop-drop (n - m) m xs ∙ ap (λ (k : ℕ). drop k xs) e
-
 past_record : (xs r : List ℕ) (h n : ℕ) → h < n → record_length * n ≤ length xs → length r ≡ record_length → drop (record_length * n) (with_record xs h r) ≡ drop (record_length * n) xs
 past_record xs r h n l room lr =
     let a = length-take-le (record_length * h) xs (omega arith) in
     let b = length-append (take (record_length * h) xs) r in
     ap (drop (record_length * n)) (sym (append_assoc (take (record_length * h) xs) r (drop (record_length * (h + 1)) xs)))
-    ∙ past (take (record_length * h) xs ++ r) xs (record_length * (h + 1)) (record_length * n) (omega arith) (omega arith)
+    ∙ drop-append-drop (record_length * (h + 1)) xs (take (record_length * h) xs ++ r) (record_length * n) (omega arith) (omega arith)
 
 past_gap : (xs : List ℕ) (i h n : ℕ) → i < h → h ≤ n → record_length * n ≤ length xs → drop (record_length * n) (without_record xs i h) ≡ drop (record_length * n) xs
 past_gap xs i h n l m room =
@@ -51,7 +45,7 @@ past_gap xs i h n l m room =
     let e = length-append vs free_record in
     let f : length free_record ≡ record_length = length-replicate {A = ℕ} record_length 0 in
     ap (drop (record_length * n)) (ap (λ (t : List ℕ). us ++ t) (sym (append_assoc vs free_record (drop (record_length * h) xs))) ∙ sym (append_assoc us (vs ++ free_record) (drop (record_length * h) xs)))
-    ∙ past (us ++ (vs ++ free_record)) xs (record_length * h) (record_length * n) (omega arith) (omega arith)
+    ∙ drop-append-drop (record_length * h) xs (us ++ (vs ++ free_record)) (record_length * n) (omega arith) (omega arith)
 
 delete_rest : (xs : List ℕ) (q : ℕ) (o : Option ℕ) → place_of (area_pieces xs) q ≡ o → drop (record_length * area_places xs) (deleted_at xs o) ≡ drop (record_length * area_places xs) xs
 delete_rest xs q None e = refl
@@ -69,7 +63,7 @@ rest_stays xs =
           (λ _. cond_both (eqb (free (area_meaning xs)) 0) xs (with_record xs h r) Same (λ _. refl)
           (λ f. let e = free_is xs in let g = eqb-false (free (area_meaning xs)) 0 f in past_record xs r h n (omega (arith, g)) k.room lr));
       delete = λ q. delete_rest xs q (place_of (area_pieces xs) q) refl;
-      wipe = past (replicate (record_length * n) 0) xs (record_length * n) (record_length * n) (length-replicate {A = ℕ} (record_length * n) 0) (omega arith);
+      wipe = drop-append-drop (record_length * n) xs (replicate (record_length * n) 0) (record_length * n) (omega arith) (length-replicate {A = ℕ} (record_length * n) 0);
     }
 
 -- ---- bytes that are not in order

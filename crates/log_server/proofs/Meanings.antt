@@ -4,9 +4,12 @@ use native.Mathlib.Nat.{div-div-eq-div-mul}
 use borrow.Author.Tests.{eqb-false}
 use Rattle.std.proofs.lemmas.Bool.Decides.{nat_tests}
 use Rattle.std.proofs.lemmas.List.{length_push}
+use Rattle.std.proofs.lemmas.Result.{err_from_is_err_and}
+use Rattle.std.specs.Option.{ok_or}
+use Rattle.std.specs.Result.{IsErrAnd}
 use Rattle.std.specs.List.{AllByRecursion}
-use Rattle.server.specs.declared.fault.ServerFault.{ServerFault}
-use Rattle.server.specs.declared.fault.ServerFault.TheVariants.{Absent}
+use Rattle.ordered.specs.declared.fault.MapFault.{MapFault}
+use Rattle.ordered.specs.declared.fault.MapFault.TheVariants.{Absent}
 use Rattle.geometry.specs.Keys.{key_number, stripes}
 use Rattle.geometry.specs.Sizes.{fragment_length}
 use Rattle.ordered.specs.Maps.{has, put, without, least}
@@ -20,7 +23,7 @@ use Rattle.log_server.specs.Sound.{area_sound}
 use Rattle.log_server.proofs.Cuts.{pieces_from}
 use Rattle.log_server.proofs.Pieces.{find_map_of, length_map_of, map_of_push, map_of_without}
 use Rattle.log_server.proofs.Places.{has_place, place_within, find_none, find_place}
-use Rattle.log_server.proofs.Areas.{area_kept, kept_pieces, area_store, area_delete, area_wipe}
+use Rattle.log_server.proofs.Areas.{area_kept, area_small, area_room, area_few, kept_pieces, area_store, area_delete, area_wipe}
 
 least_small : (ps : List Piece) (k n : ℕ) → AllByRecursion IsPiece ps → key_in (least piece_key ps k) ≡ Some n → n < 8 * stripes
 least_small [] k n w e = let z : ◌≡◌ {A = ℕ} 0 1 = cc in absurd (omega arith)
@@ -37,7 +40,15 @@ module _ (xs : List ℕ) where
   free_is = ap (λ (n : ℕ). area_places xs - n) (length_map_of (area_pieces xs) (area_kept xs).alone)
 
   pub held_is : (k : ℕ) (o : Option ℕ) → place_of (area_pieces xs) k ≡ o → held_answer (area_meaning xs) k ≡ cond (is_some o) (Ok tt) (Err Absent)
-  held_is k o e = ap (λ (b : Bool). cond {A = Result (Unit {0}) ServerFault} b (Ok tt) (Err Absent)) (holds_is k ∙ ap is_some e)
+  held_is k o e = ap (λ (b : Bool). cond {A = Result (Unit {0}) MapFault} b (Ok tt) (Err Absent)) (holds_is k ∙ ap is_some e)
+
+  -- what a `?` answers where no record has the key
+  pub absent_is : (k : ℕ) (o : Option ℕ) (f : MapFault) (r : Result (Unit {0}) MapFault) → o ≡ place_of (area_pieces xs) k → ok_or o Absent ≡ Err f → IsErrAnd r (λ g. g ≡ f)
+      → (place_of (area_pieces xs) k ≡ None) × (r ≡ held_answer (area_meaning xs) k)
+  absent_is k None f r p e h =
+      let y = err_from_is_err_and r h in
+      (sym p, y.1 ∙ ap Err (y.2 ∙ (let q : f ≡ Absent = cc in q)) ∙ sym (held_is k None (sym p)))
+  absent_is k (Some i) f r p e h = let z : ◌≡◌ {A = ℕ} 0 1 = cc in absurd (omega arith)
 
   pub fetched_none : (k : ℕ) (old : List ℕ) → place_of (area_pieces xs) k ≡ None → fetched (area_meaning xs) k old ≡ old
   fetched_none k old e = ap (λ (o : Option Piece). or_else (bytes_of o) old) (find_map_of (area_pieces xs) k ∙ find_none (area_pieces xs) k e)
@@ -47,9 +58,6 @@ module _ (xs : List ℕ) where
       let l = place_within (area_pieces xs) k i e in
       let p : drop i (area_pieces xs) ≡ piece_in (record_at xs i) ∷ drop (i + 1) (pieces h xs) = ap (drop i) (sym (kept_pieces xs h eh)) ∙ pieces_from i h xs (omega arith) in
       ap (λ (o : Option Piece). or_else (bytes_of o) old) (find_map_of (area_pieces xs) k ∙ find_place (area_pieces xs) (drop (i + 1) (pieces h xs)) k i (piece_in (record_at xs i)) e p)
-
-  pub from_is : (k h : ℕ) → h ≡ length (area_pieces xs) → key_in (least piece_key (map_of (pieces h xs)) k) ≡ key_from (area_meaning xs) k
-  from_is k h e = ap (λ (ps : List Piece). key_in (least piece_key (map_of ps) k)) (kept_pieces xs h e)
 
   pub from_small : (k n : ℕ) → Some n ≡ key_from (area_meaning xs) k → n < 8 * stripes
   from_small k n e = least_small (map_of (area_pieces xs)) k n (area_sound xs).whole (sym e)
@@ -70,6 +78,9 @@ held_record_lem client stripe bytes lc ls lb =
 
 pub meaning_of_lem : (xs : List ℕ) (n : ℕ) (ps : List Piece) → area_places xs ≡ n → area_pieces xs ≡ ps → area_meaning xs ≡ record { places = n; held = map_of ps }
 meaning_of_lem xs n ps p q = cc
+
+-- the places, the pieces and the free places of an area
+pub ruleset area_counts = (area_small, area_room, area_few, free_is, holds_is)
 
 module _ (xs r : List ℕ) (k : ℕ) (bytes : List ℕ) (lr : length r ≡ record_length) (hr : is_held r ≡ true) (pr : piece_in r ≡ (k, bytes)) where
   -- an accepted store

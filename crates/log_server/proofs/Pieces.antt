@@ -1,11 +1,12 @@
 -- Pieces in the order of their records, and the map of them.
-use Rattle.std.proofs.Common.{◌≡◌, ℕ, zero, suc, ◌<◌, ◌≤◌, true, false, cond, not, eqb, List, [], ◌∷◌, ◌++◌, length, drop, Some, None, refl, ap, ◌∙◌, arith}
+use Rattle.std.proofs.Common.{◌≡◌, ℕ, ◌<◌, ◌≤◌, Bool, true, false, cond, eqb, ltb, List, [], ◌∷◌, ◌++◌, length, take, drop, Some, None, Option, MatchOption, refl, ap, ◌∙◌, arith}
 use Rattle.std.proofs.lemmas.Bool.Decides.{nat_tests}
-use Rattle.std.proofs.lemmas.Bool.{and_parts}
-use Rattle.ordered.specs.Maps.{find, has, put, without, Rises}
+use Rattle.std.proofs.lemmas.List.{take-append-drop}
+use Rattle.ordered.specs.Maps.{find, has, put, without}
 use Rattle.ordered.proofs.Maps.{find_put_same, find_put_other, find_without_same, find_without_other, length_put_new, rises_put, rises_without, same_from_finds}
 use Rattle.server.specs.Meaning.{Piece, piece_key}
 use Rattle.log_server.specs.Area.{apart, map_of}
+use Rattle.log_server.specs.Sound.{rises_map}
 
 pub find_map_of : (ps : List Piece) (k : ℕ) → find piece_key (map_of ps) k ≡ find piece_key ps k
 find_map_of [] k = refl
@@ -23,10 +24,6 @@ length_map_of (p ∷ ps) a =
     let f = find_map_of ps (piece_key p) in
     grind (arith, nat_tests)
 
-rises_map_of : (ps : List Piece) → Rises piece_key (map_of ps)
-rises_map_of [] = refl
-rises_map_of (p ∷ ps) = rises_put piece_key (map_of ps) p (rises_map_of ps)
-
 -- ---- one more piece
 
 find_push : (ps : List Piece) (p : Piece) (k : ℕ) → has piece_key ps (piece_key p) ≡ false
@@ -36,7 +33,7 @@ find_push (q ∷ ps) p k h = let ih = find_push ps p k in grind (arith, nat_test
 
 pub map_of_push : (ps : List Piece) (p : Piece) → has piece_key ps (piece_key p) ≡ false → map_of (ps ++ p ∷ []) ≡ put piece_key (map_of ps) p
 map_of_push ps p h =
-    same_from_finds piece_key (map_of (ps ++ p ∷ [])) (put piece_key (map_of ps) p) (rises_map_of (ps ++ p ∷ [])) (rises_put piece_key (map_of ps) p (rises_map_of ps))
+    same_from_finds piece_key (map_of (ps ++ p ∷ [])) (put piece_key (map_of ps) p) (rises_map (ps ++ p ∷ [])) (rises_put piece_key (map_of ps) p (rises_map ps))
     (λ k.
     let a = find_map_of (ps ++ p ∷ []) k in
     let b = find_push ps p k h in
@@ -57,12 +54,12 @@ find_apart (p ∷ ps) k a = let ih = find_apart ps k in grind (arith, nat_tests)
 
 pub map_of_without : (ps : List Piece) (k : ℕ) → apart ps ≡ true → map_of (without piece_key ps k) ≡ without piece_key (map_of ps) k
 map_of_without ps k a =
-    same_from_finds piece_key (map_of (without piece_key ps k)) (without piece_key (map_of ps) k) (rises_map_of (without piece_key ps k)) (rises_without piece_key (map_of ps) k (rises_map_of ps))
+    same_from_finds piece_key (map_of (without piece_key ps k)) (without piece_key (map_of ps) k) (rises_map (without piece_key ps k)) (rises_without piece_key (map_of ps) k (rises_map ps))
     (λ q.
     let e = find_map_of (without piece_key ps k) q in
     let f = find_map_of ps q in
     let s = find_apart ps k a in
-    let t = find_without_same piece_key (map_of ps) k (rises_map_of ps) in
+    let t = find_without_same piece_key (map_of ps) k (rises_map ps) in
     let u = find_without_other piece_key ps k q in
     let v = find_without_other piece_key (map_of ps) k q in
     grind (arith, nat_tests))
@@ -71,20 +68,54 @@ pub apart_without : (ps : List Piece) (k : ℕ) → apart ps ≡ true → apart 
 apart_without [] k a = refl
 apart_without (p ∷ ps) k a = let ih = apart_without ps k in let u = find_without_other piece_key ps k (piece_key p) in grind (arith, nat_tests)
 
--- ---- keys of their own, walked from the end
+-- ---- keys of their own, walked
 
--- p before ps, where no key of ps is below low
-pub apart_more : (p : Piece) (ps qs : List Piece) (low next : ℕ) → qs ≡ p ∷ ps → apart ps ≡ true → ((k : ℕ) → k < low → has piece_key ps k ≡ false)
-    → has piece_key ps (piece_key p) ≡ false → next ≤ low → next ≤ piece_key p → (apart qs ≡ true) × ((k : ℕ) → k < next → has piece_key qs k ≡ false)
-apart_more p ps qs low next e a b h l m =
-    let t : apart (p ∷ ps) ≡ true = grind (arith, nat_tests) in
-    (ap apart e ∙ t, λ k u. let c = b k (omega arith) in let f : has piece_key (p ∷ ps) k ≡ false = grind (arith, nat_tests) in ap (λ (t : List Piece). has piece_key t k) e ∙ f)
+-- k is above the greatest so far
+abbrev pub IsAbove : Option ℕ → ℕ → Type 0
+IsAbove None k = Unit {0}
+IsAbove (Some g) k = g < k
 
-apart_drop : (i : ℕ) (ps : List Piece) → apart ps ≡ true → apart (drop i ps) ≡ true
-apart_drop zero ps a = a
-apart_drop (suc i) [] a = refl
-apart_drop (suc i) (p ∷ ps) a = apart_drop i ps (and_parts (not (has piece_key ps (piece_key p))) (apart ps) a).1
+pub IsAbove-same : (f : Option ℕ) (b : Bool) (j k : ℕ) → MatchOption f (b ≡ true) (λ g. b ≡ ltb g j) → b ≡ true → j ≤ k → IsAbove f k
+IsAbove-same None b j k m t l = tt
+IsAbove-same (Some g) b j k m t l = grind (arith, nat_tests)
+
+pub IsAbove-least : (f : Option ℕ) (b : Bool) (j k : ℕ) → MatchOption f (b ≡ true) (λ g. b ≡ ltb g j) → b ≡ false → IsAbove f k → j < k
+IsAbove-least None b j k m t u = let z : ◌≡◌ {A = ℕ} 0 1 = cc in absurd (omega arith)
+IsAbove-least (Some g) b j k m t u = grind (arith, nat_tests)
+
+has_push : (ps : List Piece) (p : Piece) (k : ℕ) → has piece_key ps k ≡ false → eqb (piece_key p) k ≡ false → has piece_key (ps ++ p ∷ []) k ≡ false
+has_push [] p k h n = grind (arith, nat_tests)
+has_push (q ∷ ps) p k h n = let ih = has_push ps p k in grind (arith, nat_tests)
+
+-- one more piece, where the greatest so far becomes g
+pub apart_next : (ps qs : List Piece) (p : Piece) (f g : Option ℕ) → qs ≡ ps ++ p ∷ [] → apart ps ≡ true → ((k : ℕ) → IsAbove f k → has piece_key ps k ≡ false)
+    → has piece_key ps (piece_key p) ≡ false → ((k : ℕ) → IsAbove g k → IsAbove f k × (piece_key p < k))
+    → (apart qs ≡ true) × ((k : ℕ) → IsAbove g k → has piece_key qs k ≡ false)
+apart_next ps qs p f g e a b h t = (
+  ap apart e ∙ apart_push ps p h a,
+  λ k u. let m = t k u in ap (λ (rs : List Piece). has piece_key rs k) e ∙ has_push ps p k (b k m.0) (let n : eqb (piece_key p) k ≡ false = grind (arith, nat_tests) in n),
+)
+
+has_pushed : (ps : List Piece) (p : Piece) → has piece_key (ps ++ p ∷ []) (piece_key p) ≡ true
+has_pushed [] p = grind (arith, nat_tests)
+has_pushed (q ∷ ps) p = let ih = has_pushed ps p in grind (arith, nat_tests)
+
+apart_pushed : (ps : List Piece) (p : Piece) → has piece_key ps (piece_key p) ≡ true → apart (ps ++ p ∷ []) ≡ false
+apart_pushed [] p h = let z : ◌≡◌ {A = ℕ} 0 1 = cc in absurd (omega arith)
+apart_pushed (q ∷ ps) p h = let ih = apart_pushed ps p in let n = has_pushed ps p in grind (arith, nat_tests)
+
+has_left : (us vs : List Piece) (k : ℕ) → has piece_key (us ++ vs) k ≡ false → has piece_key us k ≡ false
+has_left [] vs k h = refl
+has_left (u ∷ us) vs k h = let ih = has_left us vs k in grind (arith, nat_tests)
+
+apart_left : (us vs : List Piece) → apart (us ++ vs) ≡ true → apart us ≡ true
+apart_left [] vs a = refl
+apart_left (u ∷ us) vs a = let ih = apart_left us vs in let n = has_left us vs (piece_key u) in grind (arith, nat_tests)
 
 -- a key that comes again
-pub apart_fails : (i : ℕ) (p : Piece) (ps qs : List Piece) → drop i qs ≡ p ∷ ps → has piece_key ps (piece_key p) ≡ true → false ≡ apart qs
-apart_fails i p ps qs e h = let a = apart_drop i qs in let b = ap apart e in grind (arith, nat_tests)
+pub apart_fails : (i : ℕ) (p : Piece) (ps qs : List Piece) → take i qs ≡ ps ++ p ∷ [] → has piece_key ps (piece_key p) ≡ true → false ≡ apart qs
+apart_fails i p ps qs e h =
+    let a = apart_left (take i qs) (drop i qs) in
+    let b = ap apart e ∙ apart_pushed ps p h in
+    let c = ap apart (take-append-drop i qs) in
+    grind (arith, nat_tests)

@@ -1,9 +1,10 @@
 -- What the bytes of an area mean.
-use Rattle.std.specs.Prelude.{ℕ, ◌/◌, min, Bool, true, cond, not, ◌&&◌, List, [], ◌∷◌, map, length}
+use Rattle.std.specs.Prelude.{ℕ, ◌/◌, min, Bool, true, if◌then◌else◌, not, ◌&&◌, List, [], ◌∷◌, map, length}
 use Rattle.std.specs.List.{list_all}
+use Rattle.geometry.specs.Bytes.{zeros}
 use Rattle.ordered.specs.Maps.{has, put}
 use Rattle.server.specs.Meaning.{Piece, piece_key, Meaning}
-use Rattle.log_server.specs.Records.{record_length, piece_in, is_held, zeros, records}
+use Rattle.log_server.specs.Records.{record_length, piece_in, is_held, records, records_in}
 
 abbrev pub most_records : ℕ
 most_records = 4294967295
@@ -18,14 +19,18 @@ records_of area = records (whole_records area) area
 abbrev pub pieces : ℕ → List ℕ → List Piece
 pieces n area = map piece_in (records n area)
 
+-- and of all the whole ones
+abbrev pub pieces_in : List ℕ → List Piece
+pieces_in bytes = map piece_in (records_in bytes)
+
 -- the held records at the front, and the rest
 abbrev pub front : List (List ℕ) → List (List ℕ)
 front [] = []
-front (r ∷ rs) = cond (is_held r) (r ∷ front rs) []
+front (r ∷ rs) = if is_held r then r ∷ front rs else []
 
 abbrev pub rest : List (List ℕ) → List (List ℕ)
 rest [] = []
-rest (r ∷ rs) = cond (is_held r) (rest rs) (r ∷ rs)
+rest (r ∷ rs) = if is_held r then rest rs else r ∷ rs
 
 -- no two pieces have one key
 abbrev pub apart : List Piece → Bool
@@ -38,10 +43,10 @@ in_order rs = list_all zeros (rest rs) && apart (map piece_in (front rs))
 
 -- the pieces held, in the order of their records
 unfoldable pub area_pieces : List ℕ → List Piece
-area_pieces area = cond (in_order (records_of area)) (map piece_in (front (records_of area))) []
+area_pieces area = if in_order (records_of area) then map piece_in (front (records_of area)) else []
 
 unfoldable pub area_places : List ℕ → ℕ
-area_places area = cond (in_order (records_of area)) (whole_records area) 0
+area_places area = if in_order (records_of area) then whole_records area else 0
 
 -- the map of these pieces
 abbrev pub map_of : List Piece → List Piece

@@ -1,5 +1,5 @@
 -- The bytes of an area after each call that changes them.
-use Rattle.std.specs.Prelude.{ℕ, ◌+◌, ◌-◌, ◌*◌, cond, List, ◌++◌, length, take, drop, replicate, Some, None, Option, ◌==◌}
+use Rattle.std.specs.Prelude.{ℕ, ◌+◌, ◌-◌, ◌*◌, if◌then◌else◌, List, ◌++◌, length, take, drop, replicate, Some, None, Option, ◌==◌}
 use Rattle.server.specs.Meaning.{holds, free}
 use Rattle.log_server.specs.Records.{record_length, free_record}
 use Rattle.log_server.specs.Walks.{place_of}
@@ -17,8 +17,7 @@ without_record area i h =
 
 abbrev pub stored : List ℕ → ℕ → List ℕ → List ℕ
 stored area k r =
-    cond (holds (area_meaning area) k) area
-    (cond (free (area_meaning area) == 0) area (with_record area (length (area_pieces area)) r))
+    if holds (area_meaning area) k then area else if free (area_meaning area) == 0 then area else with_record area (length (area_pieces area)) r
 
 abbrev pub deleted_at : List ℕ → Option ℕ → List ℕ
 deleted_at area None = area

@@ -1,7 +1,7 @@
 -- Records of a log: 520 bytes each. Byte 0 is the state, 0 free or 1 held; byte 1 the client; bytes 2 and 3 are zero;
 -- bytes 4 to 7 the stripe's number, low byte first; then the fragment. A free record is all zero.
-use Rattle.std.specs.Prelude.{ℕ, zero, suc, ◌+◌, ◌*◌, ◌/◌, ◌%◌, Bool, ◌&&◌, List, [], ◌∷◌, ◌++◌, take, drop, replicate, ◌==◌, nat_eq, slice_index}
-use Rattle.std.specs.List.{list_all}
+use Rattle.std.specs.Prelude.{ℕ, zero, suc, ◌+◌, ◌*◌, ◌/◌, Bool, ◌&&◌, List, [], ◌∷◌, ◌++◌, length, take, drop, replicate, ◌==◌, slice_index}
+use Rattle.geometry.specs.Bytes.{le4, word4}
 use Rattle.geometry.specs.Keys.{key_number, is_key}
 use Rattle.geometry.specs.Sizes.{fragment_length}
 use Rattle.server.specs.Meaning.{Piece}
@@ -13,7 +13,7 @@ abbrev pub record_length : ℕ
 record_length = lead_length + fragment_length
 
 abbrev pub stripe_in : List ℕ → ℕ
-stripe_in r = slice_index r 4 + slice_index r 5 * 256 + slice_index r 6 * 65536 + slice_index r 7 * 16777216
+stripe_in r = word4 r 4
 
 abbrev pub record_key : List ℕ → ℕ
 record_key r = key_number (slice_index r 1) (stripe_in r)
@@ -25,12 +25,9 @@ piece_in r = (record_key r, drop lead_length r)
 abbrev pub is_held : List ℕ → Bool
 is_held r = slice_index r 0 == 1 && is_key (slice_index r 1) (stripe_in r) && slice_index r 2 == 0 && slice_index r 3 == 0
 
-abbrev pub zeros : List ℕ → Bool
-zeros bytes = list_all (λ b. nat_eq b 0) bytes
-
 -- a held record as it is written: its first eight bytes, and all of it
 abbrev pub lead : ℕ → ℕ → List ℕ
-lead client stripe = 1 ∷ client ∷ 0 ∷ 0 ∷ stripe % 256 ∷ stripe / 256 % 256 ∷ stripe / 65536 % 256 ∷ stripe / 16777216 % 256 ∷ []
+lead client stripe = 1 ∷ client ∷ 0 ∷ 0 ∷ le4 stripe
 
 abbrev pub held_record : ℕ → ℕ → List ℕ → List ℕ
 held_record client stripe fragment = lead client stripe ++ fragment
@@ -42,6 +39,10 @@ free_record = replicate record_length 0
 abbrev pub records : ℕ → List ℕ → List (List ℕ)
 records zero area = []
 records (suc n) area = take record_length area ∷ records n (drop record_length area)
+
+-- all the whole records of these bytes
+abbrev pub records_in : List ℕ → List (List ℕ)
+records_in bytes = records (length bytes / record_length) bytes
 
 abbrev pub record_at : List ℕ → ℕ → List ℕ
 record_at area i = take record_length (drop (record_length * i) area)

@@ -1,5 +1,5 @@
 -- The meaning of an area is that of a server, whatever its bytes are.
-use Rattle.std.specs.Prelude.{◌≡◌, ℕ, zero, suc, ◌+◌, ◌*◌, ◌^◌, ◌<◌, ◌≤◌, Bool, true, false, cond, ◌&&◌, List, [], ◌∷◌, map, length, take, drop, ◌==◌, nat_lt, slice_index, refl}
+use Rattle.std.specs.Prelude.{◌≡◌, ℕ, zero, suc, ◌+◌, ◌*◌, ◌^◌, ◌<◌, ◌≤◌, Bool, true, false, if◌then◌else◌, ◌&&◌, List, [], ◌∷◌, map, length, take, drop, ◌==◌, nat_lt, slice_index, refl}
 use Rattle.std.proofs.Common.{arith, ltb-true}
 use Rattle.std.specs.List.{AllByRecursion}
 use Rattle.std.proofs.lemmas.Bool.{cond_both, and_parts}
@@ -11,7 +11,7 @@ use Rattle.server.specs.Meaning.{Piece, piece_key, IsPiece, Sound}
 use Rattle.log_server.specs.Records.{record_length, piece_in, is_held, stripe_in, records}
 use Rattle.log_server.specs.Area.{front, whole_records, records_of, in_order, area_pieces, area_places, map_of, area_meaning}
 
-rises_map : (ps : List Piece) → Rises piece_key (map_of ps)
+pub rises_map : (ps : List Piece) → Rises piece_key (map_of ps)
 rises_map [] = refl
 rises_map (p ∷ ps) = rises_put piece_key (map_of ps) p (rises_map ps)
 
@@ -19,7 +19,7 @@ length_put : (ps : List Piece) (p : Piece) → length (put piece_key ps p) ≤ l
 length_put [] p = omega arith
 length_put (q ∷ ps) p =
     let ih = length_put ps p in
-    cond_both (nat_lt q.0 p.0) (q ∷ put piece_key ps p) (cond (q.0 == p.0) (p ∷ ps) (p ∷ q ∷ ps)) (λ (t : List Piece). length t ≤ length (q ∷ ps) + 1)
+    cond_both (nat_lt q.0 p.0) (q ∷ put piece_key ps p) (if q.0 == p.0 then p ∷ ps else p ∷ q ∷ ps) (λ (t : List Piece). length t ≤ length (q ∷ ps) + 1)
     (λ _. omega arith)
     (λ _. cond_both (q.0 == p.0) (p ∷ ps) (p ∷ q ∷ ps) (λ (t : List Piece). length t ≤ length (q ∷ ps) + 1) (λ _. omega arith) (λ _. omega arith))
 
@@ -30,7 +30,7 @@ length_map_of (p ∷ ps) = let ih = length_map_of ps in let l = length_put (map_
 all_put : (ps : List Piece) (p : Piece) → IsPiece p → AllByRecursion IsPiece ps → AllByRecursion IsPiece (put piece_key ps p)
 all_put [] p h hs = (h, tt)
 all_put (q ∷ ps) p h hs =
-    cond_both (nat_lt q.0 p.0) (q ∷ put piece_key ps p) (cond (q.0 == p.0) (p ∷ ps) (p ∷ q ∷ ps)) (AllByRecursion IsPiece)
+    cond_both (nat_lt q.0 p.0) (q ∷ put piece_key ps p) (if q.0 == p.0 then p ∷ ps else p ∷ q ∷ ps) (AllByRecursion IsPiece)
     (λ _. (hs.0, all_put ps p h hs.1))
     (λ _. cond_both (q.0 == p.0) (p ∷ ps) (p ∷ q ∷ ps) (AllByRecursion IsPiece) (λ _. (h, hs.1)) (λ _. (h, hs)))
 
@@ -58,7 +58,7 @@ front_pieces (suc n) xs l =
     (λ h. (held_piece r (length-take-le record_length xs (omega arith)) h, front_pieces n (drop record_length xs) m))
     (λ _. tt)
 
-length_front : (n : ℕ) (xs : List ℕ) → length (front (records n xs)) ≤ n
+pub length_front : (n : ℕ) (xs : List ℕ) → length (front (records n xs)) ≤ n
 length_front zero xs = omega arith
 length_front (suc n) xs =
     let ih = length_front n (drop record_length xs) in
@@ -66,7 +66,7 @@ length_front (suc n) xs =
 
 -- whether the area is in order or not
 sound_either : (b : Bool) (n : ℕ) (ps : List Piece) → n < 2 ^ 32 → length ps ≤ n → AllByRecursion IsPiece ps
-    → Sound (record { places = cond b n 0; held = map_of (cond b ps []) })
+    → Sound (record { places = if b then n else 0; held = map_of (if b then ps else []) })
 sound_either true n ps s l w = record { few = (let m = length_map_of ps in omega arith); small = s; rises = rises_map ps; whole = all_map_of ps w }
 sound_either false n ps s l w = record { few = omega arith; small = omega arith; rises = refl; whole = tt }
 

@@ -8,6 +8,7 @@ mod serve;
 
 #[derive(Drop)]
 pub struct LogServer<'a> {
+    // Lent, as the service takes no memory of its own. The counts save a walk over it at each call.
     bytes: &'a mut [u8],
     capacity: usize,
     held: usize,

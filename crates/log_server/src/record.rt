@@ -7,7 +7,7 @@
 //     4-7      stripe, low byte first        0
 //     8-519    fragment                      0
 ghost use Rattle.std.specs.Prelude.{◌≡◌, length};
-ghost use Rattle.log_server.specs.Records.{record_length, stripe_in, record_key, is_held, zeros, lead, held_record};
+ghost use Rattle.log_server.specs.Records.{record_length, stripe_in, record_key, is_held, lead, held_record};
 
 use geometry::key::Key;
 use geometry::sizes::{FRAGMENT_LENGTH, Fragment};
@@ -16,41 +16,31 @@ pub(crate) const LEAD_LENGTH: usize = 8;
 
 pub(crate) const RECORD_LENGTH: usize = LEAD_LENGTH + FRAGMENT_LENGTH;
 
+pub(crate) type Record = [u8; RECORD_LENGTH];
+
+// No enum: a free record is known by all its bytes being zero, so a state for it would stand unused.
 const HELD: u8 = 1;
 
-fn stripe_in(bytes: &[u8]) -> u32
-    requires { length bytes.now ≡ record_length }
+fn stripe_in(bytes: &Record) -> u32
     ensures { result ≡ stripe_in bytes.now }
 {
     u32::from_le_bytes([bytes[4], bytes[5], bytes[6], bytes[7]])
 }
 
 // The number of a held record's key.
-pub(crate) fn key_number(bytes: &[u8]) -> u64
-    requires { length bytes.now ≡ record_length }
+// By number and not as a `Key`: contracts compare key numbers, and bytes that are no key have one too.
+pub(crate) fn key_number(bytes: &Record) -> u64
     ensures { result ≡ record_key bytes.now }
 {
     (u64::from(bytes[1]) << 32) + u64::from(stripe_in(bytes))
 }
 
 // Whether this is a held record that keeps the rules.
-pub(crate) fn is_held(bytes: &[u8]) -> bool
-    requires { length bytes.now ≡ record_length }
+pub(crate) fn is_held(bytes: &Record) -> bool
     ensures { result ≡ is_held bytes.now }
 {
     let key = Key::new(u64::from(bytes[1]), u64::from(stripe_in(bytes)));
     bytes[0] == HELD && key.is_some() && bytes[2] == 0 && bytes[3] == 0
-}
-
-pub(crate) fn all_zero(bytes: &[u8]) -> bool
-    ensures { result ≡ zeros bytes.now }
-{
-    for b in bytes {
-        if *b != 0 {
-            return false;
-        }
-    }
-    true
 }
 
 fn lead(key: Key) -> [u8; LEAD_LENGTH]

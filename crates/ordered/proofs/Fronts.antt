@@ -1,28 +1,14 @@
--- The front of the memory, which a table's elements fill.
-use Rattle.std.proofs.Common.{◌≡◌, ℕ, zero, suc, ◌+◌, ◌-◌, ◌<◌, ◌≤◌, List, [], ◌∷◌, ◌++◌, length, take, drop, set, sym, refl, ap, ◌∙◌, add-one, arith}
+-- The front of the memory, which a list's elements fill.
+use Rattle.std.proofs.Common.{◌≡◌, ℕ, suc, ◌+◌, ◌-◌, ◌<◌, ◌≤◌, List, [], ◌∷◌, ◌++◌, length, take, drop, set, sym, ap, ◌∙◌, add-one, arith}
 use borrow.Rule.Slice.PartMut.{put_mid, post_of}
 use Rattle.std.specs.List.{insert, remove}
-use Rattle.std.proofs.lemmas.List.{append_assoc, length-append, drop-drop, take_more_set, drop-append-le, length-take, length-take-le, length-drop, length-set, length_push, drop_at, take_at, take-set-le, take-take}
+use Rattle.std.proofs.lemmas.List.{append_assoc, length-append, drop-drop, take_more_set, drop-append-le, length-take, length-take-le, length-drop, length-set, length_push, drop_at, take_at, take-set-le, take-take, take_min}
 use Rattle.std.proofs.lemmas.Slice.{take-put_mid, between_is}
 
 module _ {X : Type 0} where
-  pub front_fits : (len : ℕ) (xs : List X) → length (take len xs) ≤ length xs
-  front_fits len xs = simp length-take (omega arith)
-
-  take_length : (len : ℕ) (xs : List X) → take (length (take len xs)) xs ≡ take len xs
-  take_length zero xs = refl
-  take_length (suc len) [] = refl
-  take_length (suc len) (x ∷ xs) = ap (λ t. x ∷ t) (take_length len xs)
-
   -- a count that is clamped to the memory gives the same front
-  pub front_is : (len : ℕ) (xs : List X) (count : ℕ) → count ≡ length (take len xs) → take count xs ≡ take len xs
-  front_is len xs count e = ap (λ m. take m xs) e ∙ take_length len xs
-
-  pub front_set : (len : ℕ) (xs : List X) (i : ℕ) (e : X) → take len (set xs i e) ≡ set (take len xs) i e
-  front_set zero xs i e = refl
-  front_set (suc len) [] i e = refl
-  front_set (suc len) (x ∷ xs) zero e = refl
-  front_set (suc len) (x ∷ xs) (suc i) e = ap (λ t. x ∷ t) (front_set len xs i e)
+  front_is : (len : ℕ) (xs : List X) (count : ℕ) → count ≡ length (take len xs) → take count xs ≡ take len xs
+  front_is len xs count e = ap (λ m. take m xs) (e ∙ length-take len xs) ∙ take_min len xs
 
   -- the last element moved to the front
   abbrev turned_right : List X → List X

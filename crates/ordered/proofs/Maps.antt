@@ -74,9 +74,6 @@ module _ {X : Type 0} (n : X → ℕ) where
       let b = rises_from_lower xs low (suc (n x)) in
       grind (arith, nat_tests)
 
-  pub rises_none : Rises n []
-  rises_none = refl
-
   pub rises_put : (xs : List X) (e : X) → Rises n xs → Rises n (put n xs e)
   rises_put xs e = rises_from-put xs 0 e (omega arith)
 

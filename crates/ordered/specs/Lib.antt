@@ -1,3 +1,5 @@
+pub mod Faults
+pub mod Lists
 pub mod Maps
 pub mod Laws
 pub mod Places

@@ -5,4 +5,5 @@
 pub mod fault;
 pub mod keyed;
 pub mod laws;
+pub mod lent;
 pub mod table;

@@ -4,8 +4,9 @@
 ghost use Rattle.std.specs.Prelude.{◌≡◌};
 ghost use Rattle.parity.specs.Xor.{xored, xor_all, ParityCancels, OneFromTheOthers};
 
-use crate::lanes::{xor_columns, xor_parts};
-use geometry::sizes::Fragment;
+use crate::lanes::xor_columns;
+use geometry::sizes::{FRAGMENT_LENGTH, Fragment};
+use std::slice;
 
 mod lanes;
 
@@ -13,7 +14,7 @@ mod lanes;
 pub fn xor_into(acc: &mut Fragment, other: &Fragment)
     ensures { acc.new ≡ xored acc.old other.now }
 {
-    xor_parts(acc, other);
+    xor_columns(acc, slice::from_ref(other));
 }
 
 // Writes the exclusive or of all the fragments to `out`, whatever it held: the parity of data
@@ -23,5 +24,6 @@ pub fn xor_all(fragments: &[Fragment], out: &mut Fragment)
     ensures cancels { ParityCancels }
     ensures recovers { OneFromTheOthers }
 {
-    xor_columns(fragments, out);
+    *out = [0; FRAGMENT_LENGTH];
+    xor_columns(out, fragments);
 }

@@ -1,11 +1,10 @@
 -- What changes leave on a row.
-use Rattle.std.specs.Prelude.{◌≡◌, ℕ, ◌+◌, cond, List, [], ◌∷◌, length, take, drop, ◌≢◌, nat_lt, slice_set}
+use Rattle.std.specs.Prelude.{◌≡◌, ℕ, ◌+◌, if◌then◌else◌, List, [], ◌∷◌, length, take, drop, ◌≢◌, nat_lt, slice_set, Ok, Err, Result}
 use Rattle.geometry.specs.Keys.{number_of}
 use Rattle.server.specs.Meaning.{Meaning, store_after, delete_after, wipe_after}
 use Rattle.row.specs.declared.change.Change.{Change}
 use Rattle.row.specs.declared.change.Change.TheVariants.{Store, Delete, Wipe}
-use Rattle.row.specs.declared.change.Made.{Made}
-use Rattle.row.specs.declared.change.Made.TheVariants.{All, Cut}
+use Rattle.row.specs.declared.change.Cut.{Cut}
 use Rattle.row.specs.Rows.{at}
 
 abbrev pub changed : List Meaning → Change → List Meaning
@@ -18,8 +17,8 @@ abbrev pub applied : List Change → List Meaning → List Meaning
 applied [] row = row
 applied (c ∷ cs) row = applied cs (changed row c)
 
-abbrev pub made_of : ℕ → List Change → Made
-made_of budget cs = cond (nat_lt budget (length cs)) Cut All
+abbrev pub made_of : ℕ → List Change → Result (Unit {0}) Cut
+made_of budget cs = if nat_lt budget (length cs) then Err (record {}) else Ok tt
 
 -- the first j changes and then the next k are the first j + k
 abbrev pub ChangesAddUp : Type 0

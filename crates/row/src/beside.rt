@@ -1,16 +1,25 @@
 // Two rows side by side: the left row's numbers come first, and the right row's go on from them.
 // The left row is counted up to 2^64 − 1. Servers that it had beyond that would have no number.
-ghost use Rattle.row.specs.Rows.{count, beside, BySide, beside_sound};
+ghost use Rattle.row.specs.Rows.{count, beside, BySide, OnSide, beside_sound};
 
 use crate::row::ServerRow;
 use geometry::key::Key;
 use geometry::sizes::Fragment;
-use server::fault::ServerFault;
+use ordered::fault::MapFault;
 
 #[derive(Drop)]
 pub struct Beside<X, Y> {
     pub left: X,
     pub right: Y,
+}
+
+impl<X: ServerRow, Y: ServerRow> Beside<X, Y> {
+    // The server's number in the right row, if it is not in the left one.
+    fn in_right(&self, server: usize) -> Option<usize>
+        ensures { OnSide (X.ServerRow.meanings self.now.left) (Y.ServerRow.meanings self.now.right) server result }
+    {
+        server.checked_sub(self.left.len())
+    }
 }
 
 impl<X: ServerRow, Y: ServerRow> ServerRow for Beside<X, Y> {
@@ -24,75 +33,59 @@ impl<X: ServerRow, Y: ServerRow> ServerRow for Beside<X, Y> {
         self.left.len().saturating_add(self.right.len())
     }
 
-    fn store(&mut self, server: usize, key: Key, bytes: &Fragment) -> Result<(), ServerFault> {
-        let first = self.left.len();
-        if server < first {
-            self.left.store(server, key, bytes)
-        } else {
-            self.right.store(server - first, key, bytes)
+    fn store(&mut self, server: usize, key: Key, bytes: &Fragment) -> Result<(), MapFault> {
+        match self.in_right(server) {
+            None => self.left.store(server, key, bytes),
+            Some(right) => self.right.store(right, key, bytes),
         }
     }
 
-    fn fetch(&mut self, server: usize, key: Key, out: &mut Fragment) -> Result<(), ServerFault> {
-        let first = self.left.len();
-        if server < first {
-            self.left.fetch(server, key, out)
-        } else {
-            self.right.fetch(server - first, key, out)
+    fn fetch(&mut self, server: usize, key: Key, out: &mut Fragment) -> Result<(), MapFault> {
+        match self.in_right(server) {
+            None => self.left.fetch(server, key, out),
+            Some(right) => self.right.fetch(right, key, out),
         }
     }
 
-    fn delete(&mut self, server: usize, key: Key) -> Result<(), ServerFault> {
-        let first = self.left.len();
-        if server < first {
-            self.left.delete(server, key)
-        } else {
-            self.right.delete(server - first, key)
+    fn delete(&mut self, server: usize, key: Key) -> Result<(), MapFault> {
+        match self.in_right(server) {
+            None => self.left.delete(server, key),
+            Some(right) => self.right.delete(right, key),
         }
     }
 
     fn wipe(&mut self, server: usize) {
-        let first = self.left.len();
-        if server < first {
-            self.left.wipe(server)
-        } else {
-            self.right.wipe(server - first)
+        match self.in_right(server) {
+            None => self.left.wipe(server),
+            Some(right) => self.right.wipe(right),
         }
     }
 
     fn holds(&mut self, server: usize, key: Key) -> bool {
-        let first = self.left.len();
-        if server < first {
-            self.left.holds(server, key)
-        } else {
-            self.right.holds(server - first, key)
+        match self.in_right(server) {
+            None => self.left.holds(server, key),
+            Some(right) => self.right.holds(right, key),
         }
     }
 
     fn from(&mut self, server: usize, key: Key) -> Option<Key> {
-        let first = self.left.len();
-        if server < first {
-            self.left.from(server, key)
-        } else {
-            self.right.from(server - first, key)
+        match self.in_right(server) {
+            None => self.left.from(server, key),
+            Some(right) => self.right.from(right, key),
         }
     }
 
     fn capacity(&mut self, server: usize) -> u32 {
-        let first = self.left.len();
-        if server < first {
-            self.left.capacity(server)
-        } else {
-            self.right.capacity(server - first)
+        match self.in_right(server) {
+            None => self.left.capacity(server),
+            Some(right) => self.right.capacity(right),
         }
     }
 
     fn free(&mut self, server: usize) -> u32 {
-        let first = self.left.len();
-        if server < first {
-            self.left.free(server)
-        } else {
-            self.right.free(server - first)
+        match self.in_right(server) {
+            None => self.left.free(server),
+            Some(right) => self.right.free(right),
         }
     }
 }

@@ -2,6 +2,8 @@
 // a list of changes, and a budget says how many of them are made.
 use geometry::key::Key;
 use geometry::sizes::Fragment;
+use std::error::Error;
+use std::fmt;
 
 pub mod make;
 
@@ -12,9 +14,15 @@ pub enum Change {
     Wipe(usize),
 }
 
-// Whether all changes were made, or the budget cut them off.
+// The budget did not reach to the last change.
 #[derive(Clone, Copy, PartialEq, Eq, Debug)]
-pub enum Made {
-    All,
-    Cut,
+pub struct Cut;
+
+// By hand: no derive of std's prints, and the crate takes in no other crate for it.
+impl fmt::Display for Cut {
+    fn fmt<W: fmt::Write>(&self, f: &mut fmt::Formatter<W>) -> fmt::Result {
+        write!(f, "the budget did not reach to the last change")
+    }
 }
+
+impl Error for Cut {}

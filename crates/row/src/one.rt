@@ -1,10 +1,11 @@
 // A row of one server, which is number 0.
+// Each call tests the number: a method that lent the server out would owe a contract on the loan.
 ghost use Rattle.std.specs.Prelude.{◌≡◌, [], ◌∷◌};
 
 use crate::row::ServerRow;
 use geometry::key::Key;
 use geometry::sizes::Fragment;
-use server::fault::ServerFault;
+use ordered::fault::MapFault;
 use server::fragment_server::FragmentServer;
 
 #[derive(Drop)]
@@ -23,27 +24,27 @@ impl<S: FragmentServer> ServerRow for One<S> {
         1
     }
 
-    fn store(&mut self, server: usize, key: Key, bytes: &Fragment) -> Result<(), ServerFault> {
+    fn store(&mut self, server: usize, key: Key, bytes: &Fragment) -> Result<(), MapFault> {
         if server == 0 {
             self.server.store(key, bytes)
         } else {
-            Err(ServerFault::Full)
+            Err(MapFault::Full)
         }
     }
 
-    fn fetch(&mut self, server: usize, key: Key, out: &mut Fragment) -> Result<(), ServerFault> {
+    fn fetch(&mut self, server: usize, key: Key, out: &mut Fragment) -> Result<(), MapFault> {
         if server == 0 {
             self.server.fetch(key, out)
         } else {
-            Err(ServerFault::Absent)
+            Err(MapFault::Absent)
         }
     }
 
-    fn delete(&mut self, server: usize, key: Key) -> Result<(), ServerFault> {
+    fn delete(&mut self, server: usize, key: Key) -> Result<(), MapFault> {
         if server == 0 {
             self.server.delete(key)
         } else {
-            Err(ServerFault::Absent)
+            Err(MapFault::Absent)
         }
     }
 

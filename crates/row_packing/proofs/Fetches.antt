@@ -1,45 +1,28 @@
 -- Fragments fetched and put together.
-use Rattle.std.proofs.Common.{◌≡◌, ℕ, zero, suc, ◌+◌, ◌-◌, ◌<◌, Bool, true, false, cond, eqb, List, [], ◌∷◌, map, is_some, Some, None, Ok, Err, Option, Result, sym, refl, ap, ◌∙◌, arith, eq-eqb, ne_eqb, MatchResult}
+use Rattle.std.proofs.Common.{◌≡◌, ℕ, zero, suc, ◌+◌, ◌-◌, ◌<◌, ◌≤◌, cond, eqb, List, [], ◌∷◌, map, length, Some, Ok, Err, Result, true, false, sym, refl, ap, ne_eqb}
 use Rattle.std.specs.List.{range_with_len, AllByRecursion}
 use Rattle.std.specs.Result.{result_and}
 use Rattle.ordered.specs.Maps.{find}
+use Rattle.ordered.specs.declared.fault.MapFault.{MapFault}
 use Rattle.parity.specs.Xor.{xored, nought, Long}
-use Rattle.parity.proofs.Xors.{xored_assoc, length-xor_all}
-use Rattle.server.specs.declared.fault.ServerFault.{ServerFault}
-use Rattle.server.specs.declared.fault.ServerFault.TheVariants.{Absent}
-use Rattle.server.specs.Meaning.{Meaning, Sound, Piece, IsPiece, piece_key, bytes_of, or_else, fetched, held_answer}
+use Rattle.parity.proofs.Xors.{xored_assoc, xored_nought, nought_xored, length-xor_all}
+use Rattle.server.specs.Meaning.{Meaning, Sound, Piece, IsPiece, piece_key, bytes_of, or_else, held_answer}
 use Rattle.row.specs.Rows.{at}
 use Rattle.row_packing.specs.Fetches.{leaving, bytes_on, fetches_answer, put_together}
-use Rattle.row_packing.proofs.Counts.{left_more}
+use Rattle.row_packing.proofs.Counts.{left_more, left_none}
 
--- a key that is there is copied over whatever was in the buffer
+-- what an answer that lets a value through is, and the value
 
-abbrev held_in : Option Piece → Result (Unit {0}) ServerFault
-held_in o = cond (is_some o) (Ok tt) (Err Absent)
-
-copied_from : (o : Option Piece) (a b : List ℕ) (u : Unit {0}) → held_in o ≡ Ok u → or_else (bytes_of o) a ≡ or_else (bytes_of o) b
-copied_from (Some p) a b u e = refl
-copied_from None a b u e = absurd (let z : ◌≡◌ {A = ℕ} 0 1 = cc in omega arith)
-
-pub copied : (m : Meaning) (k : ℕ) (a b : List ℕ) (u : Unit {0}) → held_answer m k ≡ Ok u → fetched m k a ≡ fetched m k b
-copied m k a b u e = copied_from (find piece_key m.held k) a b u e
-
-left_from : (o : Option Piece) (a : List ℕ) (f : ServerFault) → held_in o ≡ Err f → or_else (bytes_of o) a ≡ a
-left_from (Some p) a f e = absurd (let z : ◌≡◌ {A = ℕ} 0 1 = cc in omega arith)
-left_from None a f e = refl
-
-pub left_over : (m : Meaning) (k : ℕ) (a : List ℕ) (f : ServerFault) → held_answer m k ≡ Err f → fetched m k a ≡ a
-left_over m k a f e = left_from (find piece_key m.held k) a f e
+pub given : {A E : Type 0} (a : Result (Unit {0}) E) (x y : A) → Ok x ≡ result_and a (Ok y) → (a ≡ Ok tt) × (x ≡ y)
+given (Ok u) x y e = (refl, cc)
+given (Err f) x y e = cc
 
 -- what is fetched is a fragment
 
 long_found : (ps : List Piece) (k : ℕ) → AllByRecursion IsPiece ps → Long (or_else (bytes_of (find piece_key ps k)) nought)
 long_found [] k a = refl
-long_found (p ∷ ps) k a = by (eqb p.0 k) (long_found ps k a.1)
-  where
-    by : (t : Bool) → Long (or_else (bytes_of (find piece_key ps k)) nought) → Long (or_else (bytes_of (cond t (Some p) (find piece_key ps k))) nought)
-    by true h = a.0.1
-    by false h = h
+long_found (p ∷ ps) k a =
+    elim (eqb p.0 k) as (λ t. Long (or_else (bytes_of (cond t (Some p) (find piece_key ps k))) nought)) [ true ↦ a.0.1 | false ↦ long_found ps k a.1 ]
 
 long_on : (row : List Meaning) (k s : ℕ) → AllByRecursion Sound row → Long (bytes_on row k s)
 long_on [] k zero a = refl
@@ -51,39 +34,24 @@ all_long : (row : List Meaning) (k : ℕ) (ss : List ℕ) → AllByRecursion Sou
 all_long row k [] a = tt
 all_long row k (s ∷ ss) a = (long_on row k s a, all_long row k ss a)
 
-pub long_together : (row : List Meaning) (k : ℕ) (ss : List ℕ) → AllByRecursion Sound row → Long (put_together row k ss)
-long_together row k ss a = length-xor_all (map (bytes_on row k) ss) (all_long row k ss a)
+-- the sum so far, with the fragments of these servers
+abbrev pub summed : List Meaning → ℕ → List ℕ → List ℕ → Result (List ℕ) MapFault
+summed row k sum ss = result_and (fetches_answer row k ss) (Ok (xored sum (put_together row k ss)))
 
--- the other servers that are left, after this one
+pub summed_all : (row : List Meaning) (k : ℕ) (ss : List ℕ) → AllByRecursion Sound row → summed row k nought ss ≡ result_and (fetches_answer row k ss) (Ok (put_together row k ss))
+summed_all row k ss a =
+    ap (λ t. result_and (fetches_answer row k ss) (Ok t)) (nought_xored (put_together row k ss) (length-xor_all (map (bytes_on row k) ss) (all_long row k ss a)))
 
-pub others_skip : (i n s : ℕ) → i < n → i ≡ s → leaving s (range_with_len i (n - i)) ≡ leaving s (range_with_len (i + 1) (n - (i + 1)))
-others_skip i n s h e =
-    let rest : List ℕ = leaving s (range_with_len (i + 1) (n - (i + 1))) in
-    ap (leaving s) (left_more i n h) ∙ ap (λ t. cond t rest (i ∷ rest)) (eq-eqb i s e)
+-- the other servers from i on
+abbrev pub others_from : ℕ → ℕ → ℕ → List ℕ
+others_from n s i = leaving s (range_with_len i (n - i))
 
-pub others_take : (i n s : ℕ) → i < n → (i ≡ s → ⊥) → leaving s (range_with_len i (n - i)) ≡ i ∷ leaving s (range_with_len (i + 1) (n - (i + 1)))
-others_take i n s h e =
-    let rest : List ℕ = leaving s (range_with_len (i + 1) (n - (i + 1))) in
-    ap (leaving s) (left_more i n h) ∙ ap (λ t. cond t rest (i ∷ rest)) (ne_eqb i s e)
+module _ (row : List Meaning) (k n s i : ℕ) (sum : List ℕ) where
+  pub sums_none : n ≤ i → length sum ≡ 512 → Ok sum ≡ summed row k sum (others_from n s i)
+  sums_none h long = rw (left_none i n h) (ap Ok (sym (xored_nought sum long)))
 
-module _ (row : List Meaning) (k i n s : ℕ) (h : i < n) (apart : i ≡ s → ⊥) where
-  abbrev rest : List ℕ
-  rest = leaving s (range_with_len (i + 1) (n - (i + 1)))
-
-  pub fetch_stops : (f : ServerFault) → held_answer (at row i) k ≡ Err f → Err f ≡ fetches_answer row k (leaving s (range_with_len i (n - i)))
-  fetch_stops f a = sym (ap (fetches_answer row k) (others_take i n s h apart) ∙ ap (λ t. result_and t (fetches_answer row k rest)) a)
-
-  module _ (u : Unit {0}) (a : held_answer (at row i) k ≡ Ok u) where
-    pub fetch_goes : fetches_answer row k rest ≡ fetches_answer row k (leaving s (range_with_len i (n - i)))
-    fetch_goes = sym (ap (fetches_answer row k) (others_take i n s h apart) ∙ ap (λ t. result_and t (fetches_answer row k rest)) a)
-
-    pub sum_goes : (sum piece old : List ℕ) → piece ≡ fetched (at row i) k old → xored (xored sum piece) (put_together row k rest) ≡ xored sum (put_together row k (leaving s (range_with_len i (n - i))))
-    sum_goes sum piece old e =
-        xored_assoc sum piece (put_together row k rest)
-        ∙ ap (λ t. xored sum (xored t (put_together row k rest))) (e ∙ copied (at row i) k old nought u a)
-        ∙ ap (λ ss. xored sum (put_together row k ss)) (sym (others_take i n s h apart))
-
--- a plain fetch
-pub plain : (m : Meaning) (k : ℕ) (old out whole : List ℕ) (r : Result (Unit {0}) ServerFault) → r ≡ held_answer m k → out ≡ fetched m k old → fetched m k nought ≡ whole → MatchResult r (λ _. out ≡ whole) (λ _. out ≡ old)
-plain m k old out whole (Ok u) e f w = f ∙ copied m k old nought u (sym e) ∙ w
-plain m k old out whole (Err x) e f w = f ∙ left_over m k old x (sym e)
+  pub sums_go : i < n → (i ≡ s → ⊥) → (piece : List ℕ) → Ok piece ≡ result_and (held_answer (at row i) k) (Ok (bytes_on row k i)) → summed row k (xored sum piece) (others_from n s (i + 1)) ≡ summed row k sum (others_from n s i)
+  sums_go h apart piece e =
+      let rest = others_from n s (i + 1) in
+      let g = given (held_answer (at row i) k) piece (bytes_on row k i) e in
+      rw (left_more i n h, ne_eqb i s apart, g.0, g.1, xored_assoc sum (bytes_on row k i) (put_together row k rest))

@@ -1,7 +1,7 @@
 -- Stores one after another.
-use Rattle.std.proofs.Common.{◌≡◌, ℕ, ◌+◌, ◌-◌, ◌<◌, List, [], ◌∷◌, map, Ok, Err, Result, sym, refl, ap, ◌∙◌, arith}
+use Rattle.std.proofs.Common.{◌≡◌, ℕ, ◌+◌, ◌-◌, ◌<◌, List, [], ◌∷◌, map, Ok, Err, Result, refl}
 use Rattle.std.specs.List.{range_with_len}
-use Rattle.server.specs.declared.fault.ServerFault.{ServerFault}
+use Rattle.ordered.specs.declared.fault.MapFault.{MapFault}
 use Rattle.server.specs.Meaning.{Meaning}
 use Rattle.row.specs.declared.change.Change.{Change}
 use Rattle.row.specs.Changes.{changed, applied}
@@ -13,23 +13,18 @@ pub all_stored : (cs : List Change) (row : List Meaning) → stores_answer cs ro
 all_stored [] row e = refl
 all_stored (c ∷ cs) row e = by (answer_on row c) e (all_stored cs (changed row c))
   where
-    by : (a : Result (Unit {0}) ServerFault) → onward a (stores_answer cs (changed row c)) Err ≡ Ok tt → (stores_answer cs (changed row c) ≡ Ok tt → stores_after cs (changed row c) ≡ applied cs (changed row c)) → onward a (stores_after cs (changed row c)) (λ _. changed row c) ≡ applied cs (changed row c)
+    by : (a : Result (Unit {0}) MapFault) → onward a (stores_answer cs (changed row c)) Err ≡ Ok tt → (stores_answer cs (changed row c) ≡ Ok tt → stores_after cs (changed row c) ≡ applied cs (changed row c)) → onward a (stores_after cs (changed row c)) (λ _. changed row c) ≡ applied cs (changed row c)
     by (Ok u) h on = on h
-    by (Err f) h on = absurd (let z : ◌≡◌ {A = ℕ} 0 1 = cc in omega arith)
+    by (Err f) h on = cc
 
 module _ (f : ℕ → Change) (i n : ℕ) (h : i < n) (row after : List Meaning) (r : after ≡ changed row (f i)) where
+  abbrev from : ℕ → List Change
+  from j = map f (range_with_len j (n - j))
+
   -- one that is accepted
-  pub goes_on : (u : Unit {0}) → answer_on row (f i) ≡ Ok u → (stores_answer (map f (range_with_len (i + 1) (n - (i + 1)))) after ≡ stores_answer (map f (range_with_len i (n - i))) row) × (stores_after (map f (range_with_len (i + 1) (n - (i + 1)))) after ≡ stores_after (map f (range_with_len i (n - i))) row)
-  goes_on u e =
-      let rest : List Change = map f (range_with_len (i + 1) (n - (i + 1))) in (
-        sym (ap (λ ss. stores_answer (map f ss) row) (left_more i n h) ∙ ap (λ a. onward a (stores_answer rest (changed row (f i))) Err) e ∙ ap (stores_answer rest) (sym r)),
-        sym (ap (λ ss. stores_after (map f ss) row) (left_more i n h) ∙ ap (λ a. onward a (stores_after rest (changed row (f i))) (λ _. changed row (f i))) e ∙ ap (stores_after rest) (sym r)),
-      )
+  pub goes_on : (u : Unit {0}) → answer_on row (f i) ≡ Ok u → (stores_answer (from (i + 1)) after ≡ stores_answer (from i) row) × (stores_after (from (i + 1)) after ≡ stores_after (from i) row)
+  goes_on u e = rw (left_more i n h, e, r) (refl, refl)
 
   -- one that is refused
-  pub stops : (fault : ServerFault) → answer_on row (f i) ≡ Err fault → (Err fault ≡ stores_answer (map f (range_with_len i (n - i))) row) × (after ≡ stores_after (map f (range_with_len i (n - i))) row)
-  stops fault e =
-      let rest : List Change = map f (range_with_len (i + 1) (n - (i + 1))) in (
-        sym (ap (λ ss. stores_answer (map f ss) row) (left_more i n h) ∙ ap (λ a. onward a (stores_answer rest (changed row (f i))) Err) e),
-        sym (ap (λ ss. stores_after (map f ss) row) (left_more i n h) ∙ ap (λ a. onward a (stores_after rest (changed row (f i))) (λ _. changed row (f i))) e ∙ sym r),
-      )
+  pub stops : (fault : MapFault) → answer_on row (f i) ≡ Err fault → (Err fault ≡ stores_answer (from i) row) × (after ≡ stores_after (from i) row)
+  stops fault e = rw (left_more i n h, e, r) (refl, refl)

@@ -4,3 +4,4 @@ pub mod Fetches
 pub mod Readings
 pub mod Packers
 pub mod Refills
+pub mod Contents

@@ -18,8 +18,8 @@ use Rattle.row_packing.specs.Stores.{stripe_stores}
 
 -- the image of a stripe's slots under key k
 pub record ImageOf (b : StripeBuffer) (k : ℕ) (image : StripeImage) : Type 0 where
-  pub row : image.row ≡ b.row
-  pub key : number_of image.key ≡ k
+  pub row : image.stripe.row ≡ b.row
+  pub key : number_of image.stripe.key ≡ k
   pub each : (s : ℕ) → s < b.row.servers → image_on image s ≡ fragment_on b.row.servers k (data_fragments b.row.servers k (slots_in b)) s
 
 -- packer q is packer p once its stripe is stored on the row and another begun

@@ -1,5 +1,5 @@
 -- The readings in stripes, and the newest among them.
-use Rattle.std.specs.Prelude.{◌≡◌, ℕ, ◌-◌, cond, List, [], ◌∷◌, Some, None, Ok, Err, Option, Result}
+use Rattle.std.specs.Prelude.{◌≡◌, ℕ, ◌-◌, if◌then◌else◌, List, [], ◌∷◌, Some, None, Ok, Err, Option, Result}
 use Rattle.std.specs.List.{range_with_len, flat_map}
 use Rattle.std.specs.Ordering.{eq_by_cmp}
 use Rattle.geometry.specs.Keys.{key_number}
@@ -54,7 +54,7 @@ readings_on row n missing client count = flat_map (λ j. stripe_readings row n m
 -- what is noted of a tyre after these readings
 abbrev pub newest_of : Option Noted → List Entry → TyreId → Option Noted
 newest_of old [] q = old
-newest_of old (e ∷ es) q = newest_of (cond (eq_by_cmp by_tyre q e.0) (Some (newer old e.1)) old) es q
+newest_of old (e ∷ es) q = newest_of (if eq_by_cmp by_tyre q e.0 then Some (newer old e.1) else old) es q
 
 abbrev pub newest_among : List Entry → TyreId → Option Noted
 newest_among es q = newest_of None es q

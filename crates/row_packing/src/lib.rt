@@ -2,8 +2,10 @@
 // if need be.
 #![tactic(auto)]
 
+pub mod contents;
 pub mod fault;
 pub mod fetch;
+pub mod log;
 mod note;
 pub mod pack;
 pub mod refill;

@@ -8,26 +8,18 @@ ghost use Rattle.row_packing.specs.Readings.{entry_in, entries_in, Appended};
 use crate::fault::PackFault;
 use fragment::codec::{block_in, read};
 use fragment::delta::Delta;
-use geometry::key::Key;
-use geometry::row::RowLength;
-use geometry::sizes::{BLOCK_LENGTH, Block, Fragment};
+use fragment::name::FragmentName;
+use geometry::sizes::{Block, Fragment};
 use workshop::newest::Newest;
 use workshop::pressure::kpa_in;
 use workshop::tyre::TyreId;
 
 // The block in a slot.
-fn block_at(fragment: &Fragment, slot: usize) -> Block
+fn block_at(fragment: &Fragment, slot: usize) -> &Block
     requires { slot < slots_in_fragment }
-    ensures { result ≡ drop delta_length (slot_in fragment.now slot) }
+    ensures { result.now ≡ drop delta_length (slot_in fragment.now slot) }
 {
-    let mut block = [0; BLOCK_LENGTH];
-    match block_in(fragment, slot) {
-        Some(bytes) => {
-            block.copy_from_slice(bytes);
-            block
-        }
-        None => block,
-    }
+    block_in(fragment, slot).unwrap()
 }
 
 // Notes the reading in one slot, if it is filled.
@@ -47,23 +39,22 @@ fn note_slot(
         truck: delta.file,
         tyre: delta.block,
     };
-    let kpa = kpa_in(&block_at(fragment, slot));
+    let kpa = kpa_in(block_at(fragment, slot));
     newest.note(tyre, delta.version, kpa)?;
     Ok(())
 }
 
-// Notes every reading of data fragment `index` of this key.
+// Notes every reading of the named fragment.
 pub(crate) fn note_fragment(
     newest: &mut Newest,
     fragment: &Fragment,
-    row: RowLength,
-    key: Key,
-    index: u8,
+    name: FragmentName,
 ) -> Result<(), PackFault>
-    ensures { OnOk result (Appended newest.old newest.new (entries_in (read_fragment row.servers (number_of key) index fragment.now))) }
+    ensures { OnOk result (Appended newest.old newest.new (entries_in (read_fragment name.stripe.row.servers (number_of name.stripe.key) name.index fragment.now))) }
 {
-    let slots = read(fragment, row, key, index)?;
-    note_slot(newest, fragment, 0, slots[0])?;
-    note_slot(newest, fragment, 1, slots[1])?;
-    note_slot(newest, fragment, 2, slots[2])
+    let slots = read(fragment, name)?;
+    for (slot, filled) in slots.iter().enumerate() {
+        note_slot(newest, fragment, slot, *filled)?;
+    }
+    Ok(())
 }

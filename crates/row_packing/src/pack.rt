@@ -1,4 +1,6 @@
 // Packing readings into stripes.
+ghost use Rattle.std.specs.Prelude.{◌≡◌};
+
 use geometry::row::RowLength;
 use stripe::buffer::StripeBuffer;
 
@@ -12,4 +14,5 @@ pub struct Packer {
     buffer: StripeBuffer,
     stripes: u64,
     version: u32,
+    ghost one_row: { buffer.row ≡ row },
 }

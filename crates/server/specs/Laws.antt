@@ -2,7 +2,7 @@
 use Rattle.std.specs.Prelude.{◌≡◌, ℕ, ◌+◌, ◌*◌, ◌<◌, ◌≤◌, true, false, List, length, is_some, Some, None, Ok, Err, ◌≢◌}
 use Rattle.geometry.specs.Keys.{stripes}
 use Rattle.geometry.specs.Sizes.{fragment_length}
-use Rattle.server.specs.declared.fault.ServerFault.{ServerFault}
+use Rattle.ordered.specs.declared.fault.MapFault.{MapFault}
 use Rattle.server.specs.Meaning.{Meaning, Sound, holds, key_from, free, bytes_under, store_answer, store_after, held_answer, delete_after, wipe_after}
 
 -- a key is held exactly where bytes are under it
@@ -32,7 +32,7 @@ WipeFinds = (m : Meaning) (k : ℕ) → bytes_under (wipe_after m) k ≡ None
 -- a refused store or delete leaves the server as it was
 abbrev pub RefusedStays : Type 0
 RefusedStays =
-    (m : Meaning) (k : ℕ) (bytes : List ℕ) (f : ServerFault)
+    (m : Meaning) (k : ℕ) (bytes : List ℕ) (f : MapFault)
     → (store_answer m k ≡ Err f → store_after m k bytes ≡ m) × (held_answer m k ≡ Err f → delete_after m k ≡ m)
 
 abbrev pub PlacesStay : Type 0

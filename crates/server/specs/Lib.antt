@@ -1,4 +1,4 @@
-pub mod Faults
 pub mod Meaning
+pub mod Stored
 pub mod Laws
 pub mod Calls

@@ -1,12 +1,12 @@
 -- What a server means: how many places it has, and what it holds, as pairs of a key's number and the fragment's bytes
 -- whose numbers rise. One meaning has one value, so that contracts are equations.
-use Rattle.std.specs.Prelude.{◌≡◌, ℕ, ◌-◌, ◌*◌, ◌^◌, ◌<◌, ◌≤◌, Bool, cond, List, [], length, Some, None, Ok, Err, Option, Result, ◌==◌}
+use Rattle.std.specs.Prelude.{◌≡◌, ℕ, ◌-◌, ◌*◌, ◌^◌, ◌<◌, ◌≤◌, Bool, if◌then◌else◌, List, [], length, Some, None, Ok, Err, Option, Result, ◌==◌}
 use Rattle.std.specs.List.{AllByRecursion}
 use Rattle.geometry.specs.Keys.{stripes}
 use Rattle.geometry.specs.Sizes.{fragment_length}
 use Rattle.ordered.specs.Maps.{find, has, put, without, least, Rises}
-use Rattle.server.specs.declared.fault.ServerFault.{ServerFault}
-use Rattle.server.specs.declared.fault.ServerFault.TheVariants.{Held, Full, Absent}
+use Rattle.ordered.specs.declared.fault.MapFault.{MapFault}
+use Rattle.ordered.specs.declared.fault.MapFault.TheVariants.{Held, Full, Absent}
 
 -- a key's number and a fragment's bytes
 abbrev pub Piece : Type 0
@@ -49,15 +49,15 @@ bytes_under m k = bytes_of (find piece_key m.held k)
 
 -- what each call answers, and what it leaves
 
-abbrev pub store_answer : Meaning → ℕ → Result (Unit {0}) ServerFault
-store_answer m k = cond (holds m k) (Err Held) (cond (free m == 0) (Err Full) (Ok tt))
+abbrev pub store_answer : Meaning → ℕ → Result (Unit {0}) MapFault
+store_answer m k = if holds m k then Err Held else if free m == 0 then Err Full else Ok tt
 
 abbrev pub store_after : Meaning → ℕ → List ℕ → Meaning
-store_after m k bytes = cond (holds m k) m (cond (free m == 0) m (holding m (put piece_key m.held (k, bytes))))
+store_after m k bytes = if holds m k then m else if free m == 0 then m else holding m (put piece_key m.held (k, bytes))
 
 -- of fetch and delete
-abbrev pub held_answer : Meaning → ℕ → Result (Unit {0}) ServerFault
-held_answer m k = cond (holds m k) (Ok tt) (Err Absent)
+abbrev pub held_answer : Meaning → ℕ → Result (Unit {0}) MapFault
+held_answer m k = if holds m k then Ok tt else Err Absent
 
 -- what a fetch leaves in the caller's buffer: the bytes, or what was there
 abbrev pub or_else : Option (List ℕ) → List ℕ → List ℕ

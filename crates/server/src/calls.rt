@@ -1,17 +1,11 @@
 // Calls of a server as values, and two servers asked the same.
-ghost use Rattle.std.specs.Prelude.{◌≡◌, ◌==◌, ◌&&◌, true, nat_eq, Decides};
-ghost use Rattle.geometry.specs.Keys.{number_in};
+ghost use Rattle.std.specs.Prelude.{◌≡◌, true, Decides};
 ghost use Rattle.server.specs.Calls.{answer_to, after_call, answers_to, after_calls};
-ghost use Rattle.std.specs.Cmp.Lexicographic.{pointwise};
-ghost use Rattle.std.specs.Cmp.Rules.{comparing};
-ghost use Rattle.std.specs.Result.{result_eq};
-ghost use Rattle.server.specs.Faults.{fault_number};
-ghost use Rattle.std.proofs.Common.{rules};
 
-use crate::fault::ServerFault;
 use crate::fragment_server::FragmentServer;
 use geometry::key::Key;
 use geometry::sizes::{FRAGMENT_LENGTH, Fragment};
+use ordered::fault::MapFault;
 
 #[derive(Clone, Copy)]
 pub enum ServerCall {
@@ -26,29 +20,17 @@ pub enum ServerCall {
 }
 
 // What a fetch into zeros answers and leaves there.
-#[derive(Clone, Copy)]
+// No `Result` of bytes: it would not tell what a refused fetch leaves.
+#[derive(Clone, Copy, PartialEq)]
 pub struct Fetched {
-    pub answer: Result<(), ServerFault>,
+    pub answer: Result<(), MapFault>,
     pub bytes: Fragment,
 }
 
-impl PartialEq for Fetched {
-    ghost eq = { λ x y. result_eq (λ _ _. true) (λ a b. fault_number a == fault_number b) x.answer y.answer && pointwise nat_eq x.bytes y.bytes };
-
-    ghost laws = { Prim.search (comparing, rules) };
-
-    fn eq(&self, other: &Fetched) -> bool
-        ensures computed { result ≡ (result_eq (λ _ _. true) (λ a b. fault_number a == fault_number b) self.now.answer other.now.answer && pointwise nat_eq self.now.bytes other.now.bytes) }
-        ensures same { Decides result (self.now ≡ other.now) }
-    {
-        self.answer == other.answer && self.bytes == other.bytes
-    }
-}
-
-// A key that was found goes by its number.
+// A key that was found goes by its number, since that is all that a clause says of it.
 #[derive(Clone, Copy, PartialEq)]
 pub enum ServerAnswer {
-    Changed(Result<(), ServerFault>),
+    Changed(Result<(), MapFault>),
     Fetched(Fetched),
     Wiped,
     Holds(bool),
@@ -56,17 +38,7 @@ pub enum ServerAnswer {
     Count(u32),
 }
 
-// The key's number, if there is a key.
-fn number_in(key: Option<Key>) -> Option<u64>
-    ensures { result ≡ number_in key }
-{
-    match key {
-        Some(key) => Some(key.number()),
-        None => None,
-    }
-}
-
-// Makes one call.
+// Makes one call. Calls are values, since contracts speak of lists of them.
 pub fn ask<S: FragmentServer>(server: &mut S, call: &ServerCall) -> ServerAnswer
     ensures answer { result ≡ answer_to (S.FragmentServer.meaning server.old) call.now }
     ensures after { S.FragmentServer.meaning server.new ≡ after_call (S.FragmentServer.meaning server.old) call.now }
@@ -85,7 +57,7 @@ pub fn ask<S: FragmentServer>(server: &mut S, call: &ServerCall) -> ServerAnswer
             ServerAnswer::Wiped
         }
         ServerCall::Holds(key) => ServerAnswer::Holds(server.holds(*key)),
-        ServerCall::From(key) => ServerAnswer::From(number_in(server.from(*key))),
+        ServerCall::From(key) => ServerAnswer::From(server.from(*key).map(u64::from)),
         ServerCall::Capacity => ServerAnswer::Count(server.capacity()),
         ServerCall::Free => ServerAnswer::Count(server.free()),
     }
@@ -114,6 +86,7 @@ pub fn agree<A: FragmentServer, B: FragmentServer>(
     ensures alike { A.FragmentServer.meaning a.old ≡ B.FragmentServer.meaning b.old → (result ≡ true) × (A.FragmentServer.meaning a.new ≡ B.FragmentServer.meaning b.new) }
     ensures coherent { (A.FragmentServer.coherent a.old → A.FragmentServer.coherent a.new) × (B.FragmentServer.coherent b.old → B.FragmentServer.coherent b.new) }
 {
+    // No fold: its closure would change both servers, which no proof follows there.
     let mut same = true;
     for call in calls {
         same = same & agree_on(a, b, call);

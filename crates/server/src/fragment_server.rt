@@ -4,11 +4,13 @@ ghost use Rattle.std.specs.Prelude.{◌≡◌};
 ghost use Rattle.geometry.specs.Keys.{number_of, number_in};
 ghost use Rattle.server.specs.Meaning.{Meaning, Sound, holds, key_from, free, fetched, store_answer, store_after, held_answer, delete_after, wipe_after};
 
-use crate::fault::ServerFault;
 use geometry::key::Key;
 use geometry::sizes::Fragment;
+use ordered::fault::MapFault;
 
 // A kind may change inside at any call, as a cache does, so every call takes `&mut self`.
+// What each leaves stands in full: a name for one equation or one arrow would be as long.
+// A key and its bytes stay two parameters, since callers have them apart.
 pub trait FragmentServer {
     // What the server means. One meaning has one value.
     ghost meaning: { Self → Meaning };
@@ -22,20 +24,20 @@ pub trait FragmentServer {
 
     // Adds the key with these bytes. Refused Held where the key is there, else Full where no place
     // is free.
-    fn store(&mut self, key: Key, bytes: &Fragment) -> Result<(), ServerFault>
+    fn store(&mut self, key: Key, bytes: &Fragment) -> Result<(), MapFault>
         ensures answer { result ≡ store_answer (meaning self.old) (number_of key) }
         ensures after { meaning self.new ≡ store_after (meaning self.old) (number_of key) bytes.now }
         ensures coherent { coherent self.old → coherent self.new };
 
     // Copies the bytes under the key. Refused Absent, and the buffer left, where it is not there.
-    fn fetch(&mut self, key: Key, out: &mut Fragment) -> Result<(), ServerFault>
+    fn fetch(&mut self, key: Key, out: &mut Fragment) -> Result<(), MapFault>
         ensures answer { result ≡ held_answer (meaning self.old) (number_of key) }
         ensures copied { out.new ≡ fetched (meaning self.old) (number_of key) out.old }
         ensures after { meaning self.new ≡ meaning self.old }
         ensures coherent { coherent self.old → coherent self.new };
 
     // Removes the key. Refused Absent where it is not there.
-    fn delete(&mut self, key: Key) -> Result<(), ServerFault>
+    fn delete(&mut self, key: Key) -> Result<(), MapFault>
         ensures answer { result ≡ held_answer (meaning self.old) (number_of key) }
         ensures after { meaning self.new ≡ delete_after (meaning self.old) (number_of key) }
         ensures coherent { coherent self.old → coherent self.new };

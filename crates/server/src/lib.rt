@@ -2,6 +2,6 @@
 #![tactic(auto)]
 
 pub mod calls;
-pub mod fault;
 pub mod fragment_server;
 pub mod laws;
+pub mod stored;

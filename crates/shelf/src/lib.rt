@@ -1,5 +1,4 @@
 // A fragment server that keeps its fragments in an ordered table, over memory handed in.
 #![tactic(auto)]
 
-pub mod place;
 pub mod shelf;

@@ -1,17 +1,14 @@
 // The shelf server.
 ghost use Rattle.std.specs.Prelude.{◌^◌, ◌<◌};
-ghost use Rattle.ordered.specs.Maps.{Rises};
-ghost use Rattle.ordered.specs.Tables.{items, room};
-ghost use Rattle.shelf.specs.Places.{place_number};
+ghost use Rattle.ordered.specs.Tables.{room};
 
-use crate::place::ShelfPlace;
 use ordered::table::OrderedTable;
+use server::stored::StoredFragment;
 
 mod calls;
 
 #[derive(Drop)]
 pub struct Shelf<'a> {
-    table: OrderedTable<'a, ShelfPlace>,
+    table: OrderedTable<'a, StoredFragment>,
     ghost small: { room table < 2 ^ 32 },
-    ghost rises: { Rises place_number (items table) },
 }

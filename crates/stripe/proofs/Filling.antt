@@ -1,5 +1,5 @@
 -- A stripe with one slot more.
-use Rattle.std.proofs.Common.{◌≡◌, ℕ, zero, suc, ◌+◌, ◌*◌, ◌/◌, ◌%◌, ◌<◌, ◌≤◌, ◌≢◌, List, [], ◌∷◌, ◌++◌, map, length, get_or, drop, set, replicate, Some, None, Ok, sym, refl, ap, ◌∙◌, arith, length-set, get_or-set_other, get_or-set_same}
+use Rattle.std.proofs.Common.{◌≡◌, ℕ, zero, suc, ◌+◌, ◌*◌, ◌/◌, ◌%◌, ◌<◌, ◌≤◌, ◌≢◌, List, [], ◌∷◌, ◌++◌, map, length, get_or, drop, set, replicate, Some, None, Ok, sym, refl, ap, subst, ◌∙◌, arith, length-set, get_or-set_other, get_or-set_same}
 use native.Mathlib.Decide.{dec_lt}
 use Rattle.std.specs.List.{range_with_len, flat_map, AllByRecursion}
 use Rattle.std.proofs.lemmas.List.FromFn.{length-map-range_with_len, get_or-map-range_with_len, fill_by_all}
@@ -134,20 +134,19 @@ slots_back xs a few =
 pub length_slots : (b : StripeBuffer) → length (slots_in b) ≡ b.filled
 length_slots b = length-map-range_with_len (λ j. slot_read (read_slot Two (bytes_at b.slots.fragments j))) 0 b.filled
 
--- a filled slot of a stripe, as bytes, and read from them
+-- a slot of a stripe, read from its bytes, and the bytes of a filled one
 module _ (fragments : List (List ℕ)) (filled m : ℕ) (formed : Formed fragments filled)
-    (fair : AllByRecursion Fair (slots_from fragments filled)) (few : filled ≤ 21) (h : m < filled) where
+    (fair : AllByRecursion Fair (slots_from fragments filled)) where
   abbrev slots : List Filled
   slots = slots_from fragments filled
 
-  there : slot_at slots m ≡ Some (get_or slots m no_slot)
-  there = slot_there slots m no_slot (let l = length-map-range_with_len (λ j. slot_read (read_slot Two (bytes_at fragments j))) 0 filled in omega arith)
+  pub read_formed : m < 21 → read_slot Two (bytes_at fragments m) ≡ Ok (slot_at slots m)
+  read_formed h = ap (λ t. read_slot Two (bytes_at t m)) formed ∙ read_at slots m fair h
 
-  pub bytes_formed : bytes_at fragments m ≡ slot_bytes (Some (get_or slots m no_slot))
-  bytes_formed = ap (λ t. bytes_at t m) formed ∙ bytes_at_lem slots m fair (omega arith) ∙ ap slot_bytes there
-
-  pub read_formed : read_slot Two (bytes_at fragments m) ≡ Ok (Some (get_or slots m no_slot))
-  read_formed = ap (λ t. read_slot Two (bytes_at t m)) formed ∙ read_at slots m fair (omega arith) ∙ ap Ok there
+  pub bytes_formed : filled ≤ 21 → m < filled → bytes_at fragments m ≡ slot_bytes (Some (get_or slots m no_slot))
+  bytes_formed few h =
+      let l = length-map-range_with_len (λ j. slot_read (read_slot Two (bytes_at fragments j))) 0 filled in
+      ap (λ t. bytes_at t m) formed ∙ bytes_at_lem slots m fair (omega arith) ∙ ap slot_bytes (slot_there slots m no_slot (omega arith))
 
 -- one slot more, in the place of the next
 one_more : (xs : List Filled) (x : Filled) (m : ℕ) → AllByRecursion Fair xs → m ≡ length xs → m < 21 → set (open_fragments xs) (m / 3) (put_slot (m % 3) x (get_or (open_fragments xs) (m / 3) [])) ≡ open_fragments (xs ++ x ∷ [])
@@ -186,14 +185,17 @@ module _ (fragments after : List (List ℕ)) (m : ℕ) (x : Filled) (few : m < 2
       put ∙ ap (λ t. set t (m / 3) (put_slot (m % 3) x (get_or t (m / 3) []))) formed
       ∙ one_more old x m fair (sym (length-map-range_with_len _ 0 m)) few
 
-  pub still_fair : AllByRecursion Fair (old ++ x ∷ [])
-  still_fair = All-push Fair old x fair new
+  fair_more : AllByRecursion Fair (old ++ x ∷ [])
+  fair_more = All-push Fair old x fair new
 
   pub slots_grown : slots_from after (m + 1) ≡ old ++ x ∷ []
   slots_grown =
       let long : length (old ++ x ∷ []) ≡ m + 1 = length-append old (x ∷ []) ∙ ap (λ t. t + 1) (length-map-range_with_len _ 0 m) in
       ap (λ t. slots_from t (m + 1)) grown ∙ ap (slots_from (open_fragments (old ++ x ∷ []))) (sym long)
-      ∙ slots_back (old ++ x ∷ []) still_fair (omega arith)
+      ∙ slots_back (old ++ x ∷ []) fair_more (omega arith)
 
   pub still_formed : Formed after (m + 1)
   still_formed = grown ∙ ap open_fragments (sym slots_grown)
+
+  pub still_fair : AllByRecursion Fair (slots_from after (m + 1))
+  still_fair = subst (AllByRecursion Fair) (sym slots_grown) fair_more

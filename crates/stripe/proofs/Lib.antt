@@ -1,4 +1,4 @@
+pub mod Arrays
 pub mod Chunks
-pub mod Fairs
 pub mod Filling
 pub mod Rounds

@@ -1,11 +1,12 @@
 -- The slots that a stripe being filled holds, read from its bytes.
-use Rattle.std.specs.Prelude.{◌≡◌, ℕ, ◌/◌, ◌%◌, ◌^◌, Bool, ◌&&◌, List, [], map, length, Some, None, Ok, Err, Option, Result, ◌==◌, nat_lt, slice_index_or, slice_set}
+use Rattle.std.specs.Prelude.{◌≡◌, ℕ, ◌/◌, ◌%◌, List, [], map, Some, None, Ok, Err, Option, Result, slice_index_or, slice_set}
 use Rattle.std.specs.List.{range_with_len}
-use Rattle.geometry.specs.Sizes.{block_length, slots_in_fragment}
+use Rattle.geometry.specs.Sizes.{slots_in_fragment}
 use Rattle.fragment.specs.declared.cause.Cause.{Cause}
 use Rattle.fragment.specs.declared.delta.Kind.TheVariants.{Trim}
 use Rattle.fragment.specs.declared.layout.Layout.TheVariants.{Two}
-use Rattle.fragment.specs.Slots.{Filled, read_slot, content_fits}
+use Rattle.std.proofs.Props.{props}
+use Rattle.fragment.specs.Slots.{Filled, Fair, read_slot}
 use Rattle.fragment.specs.Fragments.{slot_in, put_slot}
 use Rattle.stripe.specs.Contents.{open_fragments}
 
@@ -26,12 +27,9 @@ bytes_at fragments j = slot_in (slice_index_or fragments (j / slots_in_fragment)
 abbrev pub slots_from : List (List ℕ) → ℕ → List Filled
 slots_from fragments filled = map (λ j. slot_read (read_slot Two (bytes_at fragments j))) (range_with_len 0 filled)
 
--- the slot can be written and read back (Fair, as a test)
-abbrev pub is_fair : Filled → Bool
-is_fair x =
-    nat_lt x.delta.file (2 ^ 16) && nat_lt x.delta.block (2 ^ 16) && nat_lt x.delta.moves (2 ^ 16)
-    && nat_lt x.delta.version (2 ^ 32) && nat_lt 0 x.delta.version && length x.bytes == block_length
-    && content_fits x.delta.kind x.bytes
+-- there is one proof at most that a slot is fair
+pub Fair-prop : (x : Filled) → IsProp (Fair x)
+Fair-prop x = Prim.hlevel props
 
 -- the fragments are those of the slots that they hold, and nothing else
 abbrev pub Formed : List (List ℕ) → ℕ → Type 0

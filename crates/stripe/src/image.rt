@@ -1,18 +1,13 @@
 // A finished stripe: what each server of the row is to hold of it.
-use geometry::key::Key;
-use geometry::row::RowLength;
-use geometry::sizes::Fragment;
+use geometry::placement::PlacedStripe;
+use geometry::sizes::{Fragment, MOST_DATA};
 
 mod calls;
 
-// As many pieces as the longest row has servers.
-const MOST_PIECES: usize = 8;
-
 #[derive(Drop)]
 pub struct StripeImage {
-    row: RowLength,
-    key: Key,
-    // The parity, then the data fragments: as they lie on the row, going round from the parity's
-    // server.
-    pieces: [Fragment; MOST_PIECES],
+    stripe: PlacedStripe,
+    parity: Fragment,
+    // The data fragments, and zeros past the row's last. Its memory is that of the longest row.
+    data: [Fragment; MOST_DATA],
 }

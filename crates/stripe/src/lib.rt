@@ -3,5 +3,6 @@
 
 pub mod buffer;
 pub mod examples;
+pub mod fault;
 pub mod image;
 mod slots;

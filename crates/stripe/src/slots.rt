@@ -14,11 +14,12 @@ pub(crate) struct SlotBytes {
 }
 
 impl SlotBytes {
+    // Fills a slot; no other byte changes.
     pub(crate) fn put(&mut self, index: usize, slot: usize, delta: &Delta, block: &Block)
         requires index { index < 7 }
         requires slot { slot < slots_in_fragment }
         ensures { self.new.fragments ≡ slice_set self.old.fragments index (put_slot slot (filled_with delta.now block.now) (slice_index_or self.old.fragments index [])) }
     {
-        fill_slot(&mut self.fragments[index], slot, delta, block);
+        fill_slot(&mut self.fragments[index], slot, delta, block).unwrap();
     }
 }

@@ -1,28 +1,28 @@
 // What the program prints.
+use geometry::key::Key;
 use geometry::part::Part;
-use geometry::placement::part_on;
-use packing::boxes::Stored;
-use packing::pack::Packer;
+use geometry::placement::PlacedStripe;
+use geometry::row::RowLength;
 use std::io;
 use workshop::low::LowTyre;
 
 // One fragment: its key and which part of the stripe it is.
-fn show_fragment(rt: &HostRuntime, packer: &Packer, server: u8, stored: &Stored) -> io::Result<()> {
-    let client = stored.key.client();
-    let stripe = stored.key.stripe();
-    match part_on(packer.row, stored.key, server) {
-        Some(Part::Parity) => print!(rt; " ({client}, {stripe}) parity;"),
-        Some(Part::Data(index)) => print!(rt; " ({client}, {stripe}) data {index};"),
-        None => print!(rt; " ({client}, {stripe});"),
+fn show_fragment(rt: &HostRuntime, stripe: PlacedStripe, server: u8) -> io::Result<()> {
+    let client = stripe.key.client();
+    let number = stripe.key.stripe();
+    match stripe.part_on(server) {
+        Some(Part::Parity) => print!(rt; " ({client}, {number}) parity;"),
+        Some(Part::Data(index)) => print!(rt; " ({client}, {number}) data {index};"),
+        None => print!(rt; " ({client}, {number});"),
     }
 }
 
 // What lies on which box.
-pub(crate) fn show_boxes(rt: &HostRuntime, packer: &Packer) -> io::Result<()> {
-    for (number, one) in packer.boxes().iter().enumerate() {
-        print!(rt; "box {number}:")?;
-        for stored in one.held() {
-            show_fragment(rt, packer, (number & 0xff) as u8, stored)?;
+pub(crate) fn show_boxes(rt: &HostRuntime, row: RowLength, boxes: &[Vec<Key>]) -> io::Result<()> {
+    for (server, keys) in (0..row.servers()).zip(boxes) {
+        print!(rt; "box {server}:")?;
+        for key in keys {
+            show_fragment(rt, PlacedStripe { row, key: *key }, server)?;
         }
         println!(rt)?;
     }

@@ -1,26 +1,34 @@
 -- Decimal digits and the numbers that they write.
-use Rattle.std.proofs.Common.{◌≡◌, ℕ, ◌+◌, ◌-◌, ◌*◌, ◌<◌, ◌≤◌, Bool, true, false, cond, ltb, List, [], ◌∷◌, length, get_or, take, drop, refl, one-add, arith, rules, le-ltb}
-use Rattle.std.specs.Str.{all_ascii_digits}
-use Rattle.std.specs.Int.{IsInRange}
+use Rattle.std.proofs.Common.{◌≡◌, ℕ, zero, suc, ◌+◌, ◌^◌, ◌<◌, Bool, true, false, cond, List, [], ◌∷◌, length, take, Some, None, Ok, Err, Result, if◌then◌else◌, nat_lt, refl, one-add, arith, rules, lit<, lt-ltb, le-ltb}
+use Rattle.std.specs.Str.{all_ascii_digits, IsUtf8, IsAscii}
+use Rattle.std.specs.Str.Parse.{ParsesUnsigned}
+use Rattle.std.specs.Result.{OkIff, result_ok}
 use Rattle.std.specs.Char.{is_ascii_digit}
-use Rattle.std.proofs.lemmas.List.{at_drop_more}
-use Rattle.std.proofs.lemmas.Str.Parse.{IsNumeralModel, tells_all_ascii_digits, numerals_by_fold, digit_at}
+use Rattle.std.proofs.lemmas.Str.{IsUtf8-from_ascii}
+use Rattle.std.proofs.lemmas.Str.Parse.{IsNumeralModel, tells_all_ascii_digits, numerals_by_fold, parse_digits}
 use Rattle.workshop.specs.Lines.{digit_count, read_on}
 
 pub own : IsNumeralModel (λ ds. all_ascii_digits ds ≡ true) (read_on 0)
 own = numerals_by_fold _ tells_all_ascii_digits read_on (search rules)
 
-pub digit_here : (ds : List ℕ) (i : ℕ) → all_ascii_digits ds ≡ true → i < length ds → IsInRange 48 57 (get_or ds i 0)
-digit_here ds i h l = digit_at ds i (own.to ds h) l
+ascii : (ds : List ℕ) → all_ascii_digits ds ≡ true → IsAscii ds
+ascii [] h i = lit< tt
+ascii (c ∷ ds) h zero = grind arith
+ascii (c ∷ ds) h (suc i) = let others = ascii ds in grind arith
 
--- more digits make no number smaller
-grows : (n : ℕ) (ds : List ℕ) → n ≤ read_on n ds
-grows n [] = omega arith
-grows n (c ∷ cs) = omega (arith, grows (n * 10 + (c - 48)) cs)
+-- digits are text
+pub text : (ds : List ℕ) → all_ascii_digits ds ≡ true → IsUtf8 ds
+text ds h = IsUtf8-from_ascii ds (ascii ds h)
 
--- so the number is too large once its first digits are
-pub too_large : (n i : ℕ) (ds : List ℕ) → i < length ds → read_on n (drop i ds) ≡ read_on 0 ds → 65536 ≤ n * 10 + (get_or ds i 0 - 48) → ltb (read_on 0 ds) 65536 ≡ false
-too_large n i ds l e h = le-ltb _ _ (omega (arith, grows (n * 10 + (get_or ds i 0 - 48)) (drop (i + 1) ds), at_drop_more (read_on n) ds i 0 l))
+-- what `parse` answers to them
+pub parsed : {E : Type 0} (ds : List ℕ) (r : Result ℕ E) → ParsesUnsigned 16 10 ds r → all_ascii_digits ds ≡ true → 0 < length ds → result_ok r ≡ (if nat_lt (read_on 0 ds) 65536 then Some (read_on 0 ds) else None)
+parsed ds r h digits some = by r (parse_digits own 16 ds r h digits)
+  where
+    by : {E : Type 0} (r : Result ℕ E) → OkIff r ((0 < length ds) × (read_on 0 ds < 2 ^ 16)) (read_on 0 ds) → result_ok r ≡ (if nat_lt (read_on 0 ds) 65536 then Some (read_on 0 ds) else None)
+    by (Ok n) h = rw (lt-ltb (read_on 0 ds) 65536 (omega (arith, h.0)), h.1)
+    by (Err e) h =
+        let large : read_on 0 ds < 65536 → ⊥ = λ l. h (some, l) in
+        rw (le-ltb (read_on 0 ds) 65536 (omega arith))
 
 front_more : (t : Bool) (b : ℕ) (bs : List ℕ) → is_ascii_digit b ≡ t → all_ascii_digits (take (digit_count bs) bs) ≡ true → all_ascii_digits (take (cond t (1 + digit_count bs) 0) (b ∷ bs)) ≡ true
 front_more true b bs e h = rw one-add (rw e h)

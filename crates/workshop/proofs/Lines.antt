@@ -62,14 +62,14 @@ from_field : (f : Field) (bs : List ℕ) (n : ℕ) (rest : List ℕ) → read_fi
 from_field f bs n rest e = from (after (label f) bs) refl e
   where
     from : (o : Option (List ℕ)) → after (label f) bs ≡ o → number_after f o ≡ Ok (n, rest) → (n < 65536) × (bs ≡ label f ++ (decimal n ++ rest))
-    from None a e = absurd (let z : ◌≡◌ {A = ℕ} 0 1 = cc in omega arith)
+    from None a e = cc
     from (Some text) a e =
         let t = from_number f text n rest e in
         (t.0, from_after (label f) bs text a ∙ ap (λ x. label f ++ x) t.1)
 
 -- ---- a line
 
-pub line_read : {truck tyre kpa : ℕ} (bs first second third : List ℕ) → Ok (truck, first) ≡ read_field Truck bs → Ok (tyre, second) ≡ read_field Tyre first → Ok (kpa, third) ≡ read_field Kpa second → at_end (record { truck = truck; tyre = tyre; kpa = kpa }) third ≡ read_line bs
+line_read : {truck tyre kpa : ℕ} (bs first second third : List ℕ) → Ok (truck, first) ≡ read_field Truck bs → Ok (tyre, second) ≡ read_field Tyre first → Ok (kpa, third) ≡ read_field Kpa second → at_end (record { truck = truck; tyre = tyre; kpa = kpa }) third ≡ read_line bs
 line_read bs first second third a b c = rw (← a) (rw (← b) (rw (← c) refl))
 
 pub reads_back : ReadsBack
@@ -81,7 +81,7 @@ reads_back r fits =
 
 then_ok : {A B E : Type 0} (r : Result A E) (f : A → Result B E) (y : B) → and_then r f ≡ Ok y → (x : A) × (r ≡ Ok x) × (f x ≡ Ok y)
 then_ok (Ok x) f y e = (x, refl, e)
-then_ok (Err w) f y e = absurd (let z : ◌≡◌ {A = ℕ} 0 1 = cc in omega arith)
+then_ok (Err w) f y e = cc
 
 at_end_lem : (r s : Reading) (rest : List ℕ) → at_end r rest ≡ Ok s → (r ≡ s) × (rest ≡ [])
 at_end_lem r s [] e = (cc, refl)

@@ -1,5 +1,5 @@
 -- A reading as a line of text.
-use Rattle.std.specs.Prelude.{◌≡◌, ℕ, ◌+◌, ◌-◌, ◌*◌, ◌<◌, Bool, true, false, cond, not, List, [], ◌∷◌, ◌++◌, length, take, drop, Some, None, Ok, Err, decimal, Option, Result, ◌==◌, nat_lt}
+use Rattle.std.specs.Prelude.{◌≡◌, ℕ, ◌+◌, ◌-◌, ◌*◌, ◌<◌, Bool, true, false, if◌then◌else◌, not, List, [], ◌∷◌, ◌++◌, length, take, drop, Some, None, Ok, Err, decimal, Option, Result, ◌==◌, nat_lt}
 use Rattle.std.specs.Char.{is_ascii_digit}
 use Rattle.std.specs.List.{prefix_len}
 use Rattle.workshop.specs.declared.reading.Reading.{Reading}
@@ -24,7 +24,7 @@ and_then (Err e) f = Err e
 abbrev pub after : List ℕ → List ℕ → Option (List ℕ)
 after [] bs = Some bs
 after (p ∷ ps) [] = None
-after (p ∷ ps) (b ∷ bs) = cond (b == p) (after ps bs) None
+after (p ∷ ps) (b ∷ bs) = if b == p then after ps bs else None
 
 -- how many digits stand in front
 abbrev pub digit_count : List ℕ → ℕ
@@ -43,7 +43,7 @@ is_numeral (c ∷ d ∷ ds) = not (c == 48)
 
 -- the number that digits write, with what follows them
 abbrev pub number_of : Field → List ℕ → List ℕ → Result (ℕ × List ℕ) Wrong
-number_of f ds rest = cond (is_numeral ds) (cond (nat_lt (read_on 0 ds) 65536) (Ok (read_on 0 ds, rest)) (Err (TooLarge f))) (Err (NotANumber f))
+number_of f ds rest = if is_numeral ds then (if nat_lt (read_on 0 ds) 65536 then Ok (read_on 0 ds, rest) else Err (TooLarge f)) else Err (NotANumber f)
 
 -- a number that the code took, as such a number
 abbrev pub taken_in : Result Taken Wrong → Result (ℕ × List ℕ) Wrong
@@ -62,7 +62,7 @@ read_field f bs = number_after f (after (label f) bs)
 
 -- the reading, if nothing follows it
 abbrev pub at_end : Reading → List ℕ → Result Reading Wrong
-at_end r rest = cond (length rest == 0) (Ok r) (Err Trailing)
+at_end r rest = if length rest == 0 then Ok r else Err Trailing
 
 abbrev pub read_line : List ℕ → Result Reading Wrong
 read_line bs =

@@ -1,5 +1,5 @@
 -- The newest reading of each tyre, as a function of the tyre.
-use Rattle.std.specs.Prelude.{◌≡◌, ℕ, cond, List, [], ◌∷◌, map, Some, None, Option, ◌≢◌, nat_lt}
+use Rattle.std.specs.Prelude.{◌≡◌, ℕ, if◌then◌else◌, List, [], ◌∷◌, map, Some, None, Option, ◌≢◌, nat_lt}
 use Rattle.std.specs.BTreeMap.{get}
 use Rattle.std.specs.Ordering.{eq_by_cmp}
 use Rattle.std.specs.List.Sorted.{IsStrictlySortedBy}
@@ -17,7 +17,7 @@ noted_for m tyre = get by_tyre m.noted tyre
 -- the newer of what is noted and a further reading
 abbrev pub newer : Option Noted → Noted → Noted
 newer None new = new
-newer (Some old) new = cond (nat_lt old.version new.version) new old
+newer (Some old) new = if nat_lt old.version new.version then new else old
 
 -- n has the newer of what m has and this reading for the tyre, and for each other tyre what m has
 pub record NotedOnly (m n : Newest) (tyre : TyreId) (new : Noted) : Type 0 where
@@ -37,12 +37,12 @@ OrderFree = (old : Option Noted) (a b : Noted) → (a.version ≢ b.version) →
 -- what a list says of a tyre
 abbrev pub listed : List LowTyre → TyreId → Option ℕ
 listed [] tyre = None
-listed (low ∷ lows) tyre = cond (eq_by_cmp by_tyre tyre low.tyre) (Some low.kpa) (listed lows tyre)
+listed (low ∷ lows) tyre = if eq_by_cmp by_tyre tyre low.tyre then Some low.kpa else listed lows tyre
 
 -- the pressure, if it is low
 abbrev pub low_in : Option Noted → Option ℕ
 low_in None = None
-low_in (Some noted) = cond (is_low noted.kpa) (Some noted.kpa) None
+low_in (Some noted) = if is_low noted.kpa then Some noted.kpa else None
 
 -- a tyre is listed just if its newest reading is low, with that pressure; each once, by truck, then by tyre
 pub record LowList (m : Newest) (lows : List LowTyre) : Type 0 where

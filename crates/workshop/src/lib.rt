@@ -3,6 +3,7 @@
 #![tactic(auto)]
 
 mod decimal;
+pub mod input;
 pub mod low;
 pub mod newest;
 pub mod pressure;

@@ -25,23 +25,24 @@ fn take_number(text: &[u8], field: Field) -> Result<Taken<'_>, Wrong>
     let (digits, rest) = text.split_at(digits_in_front(text));
     match digits {
         [] | [b'0', _, ..] => Err(Wrong::NotANumber(field)),
-        _ => match number(digits) {
-            Some(number) => Ok(Taken { number, rest }),
-            None => Err(Wrong::TooLarge(field)),
-        },
+        _ => {
+            let number = number(digits).ok_or(Wrong::TooLarge(field))?;
+            Ok(Taken { number, rest })
+        }
     }
 }
 
 fn take_field(text: &[u8], field: Field) -> Result<Taken<'_>, Wrong>
     ensures { taken_in result ≡ read_field field text.now }
 {
-    match text.strip_prefix(field.label().as_bytes()) {
-        Some(rest) => take_number(rest, field),
-        None => Err(Wrong::Missing(field)),
-    }
+    let rest = text
+        .strip_prefix(field.label().as_bytes())
+        .ok_or(Wrong::Missing(field))?;
+    take_number(rest, field)
 }
 
 // The reading that a line writes, without its line feed.
+#[tactic(auto, using(crate::proofs::Lines::reads_back))]
 pub fn parse(line: &[u8]) -> Result<Reading, Wrong>
     ensures read { result ≡ read_line line.now }
     ensures back { ReadsBack }

@@ -2,6 +2,7 @@
 ghost use Rattle.std.specs.Prelude.{◌≡◌, Some};
 ghost use Rattle.workshop.specs.Fields.{name, label, place, message};
 
+use std::error::Error;
 use std::fmt;
 
 // The three numbers of a reading, in the order in which they stand.
@@ -48,6 +49,7 @@ impl Field {
     }
 }
 
+// Both are printed by hand: `output` states the text, which is proved.
 impl fmt::Display for Field {
     ghost output = { λ f. Some (name f) };
 
@@ -72,3 +74,5 @@ impl fmt::Display for Wrong {
         }
     }
 }
+
+impl Error for Wrong {}

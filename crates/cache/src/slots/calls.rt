@@ -2,31 +2,19 @@
 ghost use Rattle.std.specs.Prelude.{◌≡◌, ◌+◌, ◌%◌, Some, None, MatchOption, slice_index_or, slice_set};
 ghost use Rattle.geometry.specs.Keys.{number_of};
 ghost use Rattle.cache.specs.Sizes.{slots_in_cache};
-ghost use Rattle.cache.specs.Slots.{cached, empty_slots, forgotten, kept_under, key_in};
+ghost use Rattle.cache.specs.Slots.{cached, forgotten, key_in, IsFresh};
 
-use crate::kept::KeptFragment;
-use crate::slots::{CacheSlot, CacheSlots, SLOTS};
+use crate::slots::{CacheSlots, SLOTS};
 use geometry::key::Key;
 use geometry::sizes::Fragment;
-
-impl CacheSlot {
-    fn is_under(&self, key: Key) -> bool
-        ensures { result ≡ kept_under (number_of key) self.now }
-    {
-        match self {
-            CacheSlot::Empty => false,
-            CacheSlot::Kept(kept) => kept.key.number() == key.number(),
-        }
-    }
-}
+use server::stored::StoredFragment;
 
 impl CacheSlots {
     pub fn new() -> CacheSlots
-        ensures all { result.all ≡ empty_slots }
-        ensures turn { result.turn ≡ 0 }
+        ensures { IsFresh result }
     {
         CacheSlots {
-            all: [CacheSlot::Empty; SLOTS],
+            all: [None; SLOTS],
             turn: 0,
         }
     }
@@ -35,24 +23,18 @@ impl CacheSlots {
     pub fn find(&self, key: Key) -> Option<&Fragment>
         ensures { MatchOption result (cached self.now.all (number_of key) ≡ None) (λ bytes. cached self.now.all (number_of key) ≡ Some bytes.now) }
     {
-        for slot in &self.all {
-            if let CacheSlot::Kept(kept) = slot {
-                if slot.is_under(key) {
-                    return Some(&kept.bytes);
-                }
-            }
-        }
-        None
+        self.all
+            .iter()
+            .flatten()
+            .find(|kept| kept.key == key)
+            .map(|kept| &kept.bytes)
     }
 
     // The key of the fragment whose turn it is to go.
     pub fn next_out(&self) -> Option<Key>
-        ensures { result ≡ key_in (slice_index_or self.now.all self.now.turn CacheSlot.Empty) }
+        ensures { result ≡ key_in (slice_index_or self.now.all self.now.turn None) }
     {
-        match &self.all[self.turn] {
-            CacheSlot::Empty => None,
-            CacheSlot::Kept(kept) => Some(kept.key),
-        }
+        self.all[self.turn].map(|kept| kept.key)
     }
 
     // Lets go of what is cached under a key.
@@ -61,18 +43,16 @@ impl CacheSlots {
         ensures turn { self.new.turn ≡ self.old.turn }
     {
         for slot in self.all.iter_mut() {
-            if slot.is_under(key) {
-                *slot = CacheSlot::Empty;
-            }
+            slot.take_if(|kept| kept.key == key);
         }
     }
 
     // Fills the slot whose turn it is.
-    pub fn fill(&mut self, kept: KeptFragment)
-        ensures all { self.new.all ≡ slice_set self.old.all self.old.turn (CacheSlot.Kept kept) }
+    pub fn fill(&mut self, kept: StoredFragment)
+        ensures all { self.new.all ≡ slice_set self.old.all self.old.turn (Some kept) }
         ensures turn { self.new.turn ≡ (self.old.turn + 1) % slots_in_cache }
     {
-        self.all[self.turn] = CacheSlot::Kept(kept);
+        self.all[self.turn] = Some(kept);
         self.turn = (self.turn + 1) % SLOTS;
     }
 }

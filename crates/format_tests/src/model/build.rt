@@ -1,5 +1,6 @@
 // A fragment, byte by byte from its fields.
 use crate::model::{Bytes, Content, Head, Slot};
+use std::array;
 
 // Byte `place` of a number of four bytes, low byte first.
 fn byte_of(number: u32, place: usize) -> u8 {
@@ -57,9 +58,5 @@ fn fragment_byte(head: &Head, slots: &[Slot; 3], content: &Content, place: usize
 
 // The fragment with this head and these slots; every write has the same content.
 pub(crate) fn fragment(head: &Head, slots: &[Slot; 3], content: &Content) -> Bytes {
-    let mut bytes = [0; 512];
-    for (place, byte) in bytes.iter_mut().enumerate() {
-        *byte = fragment_byte(head, slots, content, place);
-    }
-    bytes
+    array::from_fn(|place| fragment_byte(head, slots, content, place))
 }

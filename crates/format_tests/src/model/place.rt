@@ -1,4 +1,5 @@
-// Which server holds which part of a stripe. Part 0 is the parity, part i + 1 is data fragment i.
+// Which server holds which part of a stripe. Part 0 is the parity, part i + 1 is data fragment i:
+// parts go by number, since the model uses none of the code's enums.
 ghost use Rattle.std.specs.Prelude.{◌<◌};
 
 pub(crate) fn server_of(row: u8, client: u8, stripe: u32, part: u16) -> u8
@@ -11,14 +12,10 @@ pub(crate) fn server_of(row: u8, client: u8, stripe: u32, part: u16) -> u8
 pub(crate) fn only_part_on(row: u8, client: u8, stripe: u32, server: u8) -> Option<u16>
     requires { 0 < row }
 {
-    let mut found = None;
-    for part in 0..u16::from(row) {
-        if server_of(row, client, stripe, part) == server {
-            if found.is_some() {
-                return None;
-            }
-            found = Some(part);
-        }
+    let lies_here = |part: &u16| server_of(row, client, stripe, *part) == server;
+    let mut parts = (0..u16::from(row)).filter(lies_here);
+    match (parts.next(), parts.next()) {
+        (only, None) => only,
+        _ => None,
     }
-    found
 }

@@ -9,6 +9,7 @@ ghost use Rattle.std.specs.Prelude.{◌+◌, ◌≤◌};
 use crate::model::build::{delta_byte, head_byte};
 use crate::model::{Answer, Bytes, EMPTY, Head, Slot};
 
+// Places are counted from the fragment's first byte, as the rules print them, and not in parts of it.
 fn two_bytes(bytes: &Bytes, at: usize) -> u16
     requires { at + 2 ≤ 512 }
 {
@@ -52,23 +53,13 @@ fn fields(bytes: &Bytes, at: usize, layout: u8) -> Slot
 fn delta_holds(bytes: &Bytes, at: usize, layout: u8, slot: &Slot) -> bool
     requires { at + 160 ≤ 512 }
 {
-    for place in 0..32 {
-        if bytes[at + place] != delta_byte(layout, slot, place) {
-            return false;
-        }
-    }
-    true
+    (0..32).all(|place| bytes[at + place] == delta_byte(layout, slot, place))
 }
 
 fn block_is_zero(bytes: &Bytes, at: usize) -> bool
     requires { at + 160 ≤ 512 }
 {
-    for place in 32..160 {
-        if bytes[at + place] != 0 {
-            return false;
-        }
-    }
-    true
+    bytes[at + 32..at + 160].iter().all(|byte| *byte == 0)
 }
 
 // The slot that begins at byte `at`, or none where it breaks a rule.
@@ -82,21 +73,14 @@ fn slot_at(bytes: &Bytes, at: usize, layout: u8) -> Option<Slot>
         2 => layout == 2 && slot.version >= 1 && block_is_zero(bytes, at),
         _ => false,
     };
-    if keeps && delta_holds(bytes, at, layout, &slot) {
-        Some(slot)
-    } else {
-        None
-    }
+    (keeps && delta_holds(bytes, at, layout, &slot)).then_some(slot)
 }
 
-// Whether bytes 2 to 31 are those of the fragment wanted, and the row has its index.
+// Whether bytes 2 to 31 are those of the fragment wanted, and the row has its index. Bytes and head
+// go apart, since the tests alter one of them and keep the other.
 fn head_fits(bytes: &Bytes, wanted: &Head) -> bool {
-    for place in 2..32 {
-        if bytes[place] != head_byte(wanted, place) {
-            return false;
-        }
-    }
-    u32::from(wanted.index) + 2 <= u32::from(wanted.row)
+    (2..32).all(|place| bytes[place] == head_byte(wanted, place))
+        && u32::from(wanted.index) + 2 <= u32::from(wanted.row)
 }
 
 // What reading must answer where the fragment of this row, key and index is asked for. Whatever
@@ -104,20 +88,17 @@ fn head_fits(bytes: &Bytes, wanted: &Head) -> bool {
 pub(crate) fn answer(bytes: &Bytes, wanted: &Head) -> Answer {
     let layout = bytes[0];
     if layout != 1 && layout != 2 {
-        return Answer::Refused(1);
+        return Err(1);
     }
     if bytes[1] != wanted.row {
-        return Answer::Refused(2);
+        return Err(2);
     }
     if !head_fits(bytes, wanted) {
-        return Answer::Refused(3);
+        return Err(3);
     }
-    match (
-        slot_at(bytes, 32, layout),
-        slot_at(bytes, 192, layout),
-        slot_at(bytes, 352, layout),
-    ) {
-        (Some(first), Some(second), Some(third)) => Answer::Slots([first, second, third]),
-        _ => Answer::Refused(4),
-    }
+    Ok([
+        slot_at(bytes, 32, layout).ok_or(4)?,
+        slot_at(bytes, 192, layout).ok_or(4)?,
+        slot_at(bytes, 352, layout).ok_or(4)?,
+    ])
 }

@@ -1,11 +1,11 @@
-// Making keys and reading them back, and their order.
-ghost use Rattle.std.specs.Prelude.{◌≡◌, ◌*◌, ◌^◌, if◌then◌else◌, Some, None, nat_lt};
+// Making keys, and their order.
+ghost use Rattle.std.specs.Prelude.{◌≡◌, if◌then◌else◌, Some, None, nat_lt};
 ghost use Rattle.geometry.specs.Keys.{key_number, is_key, number_of, number_in};
 
 use crate::key::Key;
 use crate::sizes::CLIENTS;
 
-const STRIPES: u64 = 1 << 32;
+pub(super) const STRIPES: u64 = 1 << 32;
 
 impl Key {
     // The key of these two numbers, or none where there is no such client or no such stripe.
@@ -22,24 +22,10 @@ impl Key {
         }
     }
 
-    // The key that has this number, if one has.
-    pub fn from_number(number: u64) -> Option<Key>
-        ensures { number_in result ≡ (if nat_lt number (8 * 2 ^ 32) then Some number else None) }
-    {
-        Key::new(number / STRIPES, number % STRIPES)
-    }
-
-    // Keys are ordered by client, then by stripe: by this number.
-    pub fn number(&self) -> u64
-        ensures { result ≡ number_of self.now }
-    {
-        u64::from(self.client) * STRIPES + u64::from(self.stripe)
-    }
-
-    // Whether this key comes before the other: by client, then by stripe.
+    // Whether this key comes before the other: the order of keys is that of their numbers.
     pub fn precedes(&self, other: &Key) -> bool
         ensures { result ≡ nat_lt (number_of self.now) (number_of other.now) }
     {
-        self.client < other.client || (self.client == other.client && self.stripe < other.stripe)
+        self < other
     }
 }

@@ -6,7 +6,7 @@ use crate::row::RowLength;
 use crate::sizes::{LEAST_SERVERS, MOST_SERVERS};
 
 impl RowLength {
-    // A row of this many servers, or none where a rack has no such row.
+    // A row of this many servers, or none where a rack has no such row, as std's `NonZero::new` gives none.
     pub fn new(servers: u64) -> Option<RowLength>
         ensures { servers_in result ≡ (if is_row servers then Some servers else None) }
     {

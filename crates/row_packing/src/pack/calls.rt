@@ -1,6 +1,7 @@
 // Adding readings, and storing the stripe that they fill.
-ghost use Rattle.std.specs.Prelude.{◌≡◌, ℕ, ◌+◌, ◌&&◌, [], ◌∷◌, ◌++◌, length, if◌then◌else◌, MatchResult, nat_lt};
+ghost use Rattle.std.specs.Prelude.{◌≡◌, ◌+◌, ◌&&◌, [], ◌∷◌, ◌++◌, length, if◌then◌else◌, MatchResult, is_ok, nat_lt};
 ghost use Rattle.geometry.specs.Sizes.{slot_count};
+ghost use Rattle.row.specs.Rows.{StaysCoherent};
 ghost use Rattle.stripe.specs.Means.{slots_in};
 ghost use Rattle.row_packing.specs.Deltas.{delta_for};
 ghost use Rattle.row_packing.specs.Packers.{slot_for, AfterSeal, is_full, MadeRoom, Added};
@@ -9,17 +10,12 @@ use crate::fault::PackFault;
 use crate::pack::Packer;
 use crate::store::store_stripe;
 use fragment::delta::{Delta, Kind};
-use geometry::key::Key;
 use geometry::row::RowLength;
-use geometry::sizes::SLOTS_IN_FRAGMENT;
 use row::row::ServerRow;
 use stripe::buffer::StripeBuffer;
 use stripe::image::StripeImage;
 use workshop::pressure::block_of;
 use workshop::reading::Reading;
-
-// The client under whose log the gate's readings go.
-const GATE: u64 = 1;
 
 impl Packer {
     pub fn new(row: RowLength) -> Packer
@@ -41,73 +37,59 @@ impl Packer {
     // stored. A refusal leaves the packer.
     pub fn seal<R: ServerRow>(&mut self, boxes: &mut R) -> Result<(), PackFault>
         ensures sealed { MatchResult result (λ _. AfterSeal (slots_in self.old.buffer) self.old self.new (R.ServerRow.meanings boxes.old) (R.ServerRow.meanings boxes.new)) (λ _. self.new ≡ self.old) }
-        ensures coherent { (s : ℕ) → R.ServerRow.coherent boxes.old s → R.ServerRow.coherent boxes.new s }
+        ensures coherent { StaysCoherent (R.ServerRow.coherent boxes.old) (R.ServerRow.coherent boxes.new) }
     {
         if self.buffer.filled() == 0 {
             return Ok(());
         }
-        let Some(key) = Key::new(GATE, self.stripes) else {
-            return Err(PackFault::Spent);
-        };
-        let image = StripeImage::new(&self.buffer, key);
+        let stripe = self.log().stripe(self.stripes)?;
+        let image = StripeImage::new(&self.buffer, stripe.key);
         store_stripe(boxes, &image)?;
         self.stripes += 1;
         self.buffer = StripeBuffer::new(self.row);
         Ok(())
     }
 
-    // Fills the next slot with the reading. False, and nothing changed, where the stripe is full.
-    fn put(&mut self, reading: &Reading, version: u32) -> bool
-        ensures room { result ≡ (nat_lt 0 version && nat_lt (length (slots_in self.old.buffer)) (slot_count self.old.buffer.row.servers)) }
-        ensures slots { slots_in self.new.buffer ≡ (if result then slots_in self.old.buffer ++ slot_for reading.now version ∷ [] else slots_in self.old.buffer) }
-        ensures version { self.new.version ≡ (if result then version else self.old.version) }
+    // Fills the next slot with the reading. A refusal changes nothing.
+    fn put(&mut self, reading: &Reading, version: u32) -> Result<(), PackFault>
+        ensures room { is_ok result ≡ (nat_lt 0 version && nat_lt (length (slots_in self.old.buffer)) (slot_count self.old.buffer.row.servers)) }
+        ensures slots { slots_in self.new.buffer ≡ (if is_ok result then slots_in self.old.buffer ++ slot_for reading.now version ∷ [] else slots_in self.old.buffer) }
+        ensures version { self.new.version ≡ (if is_ok result then version else self.old.version) }
         ensures stripes { self.new.stripes ≡ self.old.stripes }
         ensures row { self.new.row ≡ self.old.row }
-        ensures buffer { self.new.buffer.row ≡ self.old.buffer.row }
     {
         let delta = delta_for(reading, version);
-        if self.buffer.fill(delta, &block_of(reading.kpa)) {
-            self.version = version;
-            true
-        } else {
-            false
-        }
+        self.buffer.fill(delta, &block_of(reading.kpa))?;
+        self.version = version;
+        Ok(())
     }
 
     fn is_full(&self) -> bool
         ensures { result ≡ is_full self.now }
     {
-        SLOTS_IN_FRAGMENT * (self.row.servers() as usize - 1) <= self.buffer.filled()
+        self.row.slots() <= self.buffer.filled()
     }
 
     // Stores the stripe where it is full. A refusal leaves the packer.
     fn make_room<R: ServerRow>(&mut self, boxes: &mut R) -> Result<(), PackFault>
         ensures room { MatchResult result (λ _. MadeRoom (is_full self.old) self.old self.new (R.ServerRow.meanings boxes.old) (R.ServerRow.meanings boxes.new)) (λ _. self.new ≡ self.old) }
-        ensures coherent { (s : ℕ) → R.ServerRow.coherent boxes.old s → R.ServerRow.coherent boxes.new s }
+        ensures coherent { StaysCoherent (R.ServerRow.coherent boxes.old) (R.ServerRow.coherent boxes.new) }
     {
         if self.is_full() {
-            self.seal(boxes)
-        } else {
-            Ok(())
+            self.seal(boxes)?;
         }
+        Ok(())
     }
 
     // Adds a reading with the next version, and stores the stripe first where it is full. Versions
     // go on from reading to reading; one that is refused takes none.
     pub fn add<R: ServerRow>(&mut self, boxes: &mut R, reading: &Reading) -> Result<(), PackFault>
         ensures added { MatchResult result (λ _. Added self.old self.new (R.ServerRow.meanings boxes.old) (R.ServerRow.meanings boxes.new) (slot_for reading.now (self.old.version + 1))) (λ _. self.new.version ≡ self.old.version) }
-        ensures coherent { (s : ℕ) → R.ServerRow.coherent boxes.old s → R.ServerRow.coherent boxes.new s }
+        ensures coherent { StaysCoherent (R.ServerRow.coherent boxes.old) (R.ServerRow.coherent boxes.new) }
     {
-        if self.version == u32::MAX {
-            return Err(PackFault::Spent);
-        }
-        let version = self.version + 1;
+        let version = self.version.checked_add(1).ok_or(PackFault::Spent)?;
         self.make_room(boxes)?;
-        if self.put(reading, version) {
-            Ok(())
-        } else {
-            Err(PackFault::Spent)
-        }
+        self.put(reading, version)
     }
 }
 

@@ -1,31 +1,20 @@
 // The shelf serves fragments.
 ghost use Rattle.std.specs.Prelude.{◌≡◌, ◌-◌, ◌^◌, min, [], length};
-ghost use Rattle.shelf.specs.Shelves.{shelf_meaning, server_fault};
+ghost use Rattle.shelf.specs.Shelves.{shelf_meaning};
 ghost use Rattle.shelf.specs.Sound.{shelf_sound};
 
-use crate::place::ShelfPlace;
 use crate::shelf::Shelf;
 use geometry::key::Key;
 use geometry::sizes::Fragment;
-use ordered::fault::TableFault;
+use ordered::fault::MapFault;
 use ordered::table::OrderedTable;
-use server::fault::ServerFault;
 use server::fragment_server::FragmentServer;
-
-// Why a server refuses, by why its table does.
-fn fault_of(fault: TableFault) -> ServerFault
-    ensures { result ≡ server_fault fault }
-{
-    match fault {
-        TableFault::Held => ServerFault::Held,
-        TableFault::Full => ServerFault::Full,
-        TableFault::Absent => ServerFault::Absent,
-    }
-}
+use server::stored::StoredFragment;
 
 impl<'a> Shelf<'a> {
-    // An empty shelf with as many places as the memory has, at most 4,294,967,295.
-    pub fn new(places: &'a mut [ShelfPlace]) -> Shelf<'a>
+    // An empty shelf with as many places as the memory has, at most 4,294,967,295. What they hold
+    // before does not matter.
+    pub fn new(places: &'a mut [StoredFragment]) -> Shelf<'a>
         ensures places { (shelf_meaning result).places ≡ min (length places.old) (2 ^ 32 - 1) }
         ensures held { (shelf_meaning result).held ≡ [] }
     {
@@ -36,6 +25,7 @@ impl<'a> Shelf<'a> {
     }
 }
 
+#[tactic(auto, using(crate::proofs::Seen::seen))]
 impl<'a> FragmentServer for Shelf<'a> {
     ghost meaning = { shelf_meaning };
 
@@ -43,28 +33,18 @@ impl<'a> FragmentServer for Shelf<'a> {
 
     ghost coherent = { λ _. Unit {0} };
 
-    fn store(&mut self, key: Key, bytes: &Fragment) -> Result<(), ServerFault> {
-        match self.table.insert(ShelfPlace::new(key, bytes)) {
-            Ok(()) => Ok(()),
-            Err(fault) => Err(fault_of(fault)),
-        }
+    fn store(&mut self, key: Key, bytes: &Fragment) -> Result<(), MapFault> {
+        self.table.insert(StoredFragment::new(key, bytes))
     }
 
-    fn fetch(&mut self, key: Key, out: &mut Fragment) -> Result<(), ServerFault> {
-        match self.table.get(key.number()) {
-            Some(place) => {
-                *out = *place.bytes();
-                Ok(())
-            }
-            None => Err(ServerFault::Absent),
-        }
+    fn fetch(&mut self, key: Key, out: &mut Fragment) -> Result<(), MapFault> {
+        let stored = self.table.get(u64::from(key)).ok_or(MapFault::Absent)?;
+        *out = stored.bytes;
+        Ok(())
     }
 
-    fn delete(&mut self, key: Key) -> Result<(), ServerFault> {
-        match self.table.remove(key.number()) {
-            Ok(()) => Ok(()),
-            Err(fault) => Err(fault_of(fault)),
-        }
+    fn delete(&mut self, key: Key) -> Result<(), MapFault> {
+        self.table.remove(u64::from(key))
     }
 
     fn wipe(&mut self) {
@@ -72,14 +52,11 @@ impl<'a> FragmentServer for Shelf<'a> {
     }
 
     fn holds(&mut self, key: Key) -> bool {
-        self.table.get(key.number()).is_some()
+        self.table.get(u64::from(key)).is_some()
     }
 
     fn from(&mut self, key: Key) -> Option<Key> {
-        match self.table.least(key.number()) {
-            Some(place) => Some(place.key()),
-            None => None,
-        }
+        self.table.least(u64::from(key)).map(|stored| stored.key)
     }
 
     fn capacity(&mut self) -> u32 {

@@ -1,5 +1,5 @@
 // Filling a stripe.
-ghost use Rattle.std.specs.Prelude.{◌≡◌, ◌+◌, true, ◌&&◌, [], ◌∷◌, ◌++◌, length, if◌then◌else◌, Ok, nat_lt};
+ghost use Rattle.std.specs.Prelude.{◌≡◌, ◌+◌, ◌&&◌, [], ◌∷◌, ◌++◌, length, if◌then◌else◌, is_ok, IfSome, IfErr, ◌==◌, nat_lt};
 ghost use Rattle.geometry.specs.Keys.{number_of};
 ghost use Rattle.geometry.specs.Sizes.{slot_count};
 ghost use Rattle.fragment.specs.Fragments.{read_fragment};
@@ -9,10 +9,13 @@ ghost use Rattle.stripe.specs.Buffers.{with_slot};
 ghost use Rattle.stripe.specs.Means.{slots_in};
 
 use crate::buffer::StripeBuffer;
+use crate::fault::FillFault;
 use crate::slots::SlotBytes;
 use fragment::codec::set_head;
 use fragment::delta::Delta;
+use fragment::name::FragmentName;
 use geometry::key::Key;
+use geometry::placement::PlacedStripe;
 use geometry::row::RowLength;
 use geometry::sizes::{Block, FRAGMENT_LENGTH, Fragment, MOST_DATA, SLOTS_IN_FRAGMENT};
 
@@ -32,18 +35,21 @@ impl StripeBuffer {
         }
     }
 
-    // Fills the next slot: by fragment, then by slot; no byte of another slot changes. False, and nothing changed, where every slot
-    // is filled or the delta has no version.
-    pub fn fill(&mut self, delta: Delta, block: &Block) -> bool
-        ensures room { result ≡ (nat_lt 0 delta.version && nat_lt (length (slots_in self.old)) (slot_count self.old.row.servers)) }
-        ensures slots { slots_in self.new ≡ (if result then slots_in self.old ++ filled_with delta block.now ∷ [] else slots_in self.old) }
+    // Fills the next slot: by fragment, then by slot; no byte of another slot changes. A refusal
+    // changes nothing.
+    pub fn fill(&mut self, delta: Delta, block: &Block) -> Result<(), FillFault>
+        ensures room { is_ok result ≡ (nat_lt 0 delta.version && nat_lt (length (slots_in self.old)) (slot_count self.old.row.servers)) }
+        ensures fault { IfErr result (λ f. f ≡ (if delta.version == 0 then FillFault.NoVersion else FillFault.Full)) }
+        ensures slots { slots_in self.new ≡ (if is_ok result then slots_in self.old ++ filled_with delta block.now ∷ [] else slots_in self.old) }
         ensures row { self.new.row ≡ self.old.row }
-        ensures bytes { self.new.slots.fragments ≡ (if result then with_slot self.old.slots.fragments self.old.filled (filled_with delta block.now) else self.old.slots.fragments) }
+        ensures bytes { self.new.slots.fragments ≡ (if is_ok result then with_slot self.old.slots.fragments self.old.filled (filled_with delta block.now) else self.old.slots.fragments) }
     {
+        if delta.version == 0 {
+            return Err(FillFault::NoVersion);
+        }
         let next = self.filled;
-        let room = next < SLOTS_IN_FRAGMENT * (self.row.servers() as usize - 1);
-        if delta.version == 0 || !room {
-            return false;
+        if next >= self.row.slots() {
+            return Err(FillFault::Full);
         }
         self.slots.put(
             next / SLOTS_IN_FRAGMENT,
@@ -52,21 +58,21 @@ impl StripeBuffer {
             block,
         );
         self.filled = next + 1;
-        true
+        Ok(())
     }
 
-    // Writes data fragment `index` of the stripe under this key; it reads back as the slots that it
-    // holds. False, and nothing changed, where the row has no such fragment.
-    pub fn data_fragment(&self, key: Key, index: u8, out: &mut Fragment) -> bool
-        ensures known { result ≡ nat_lt (index + 1) self.now.row.servers }
-        ensures after { out.new ≡ (if result then data_bytes self.now.row.servers (number_of key) (slots_in self.now) index else out.old) }
-        ensures reads { result ≡ true → read_fragment self.now.row.servers (number_of key) index out.new ≡ Ok (slots_of (slots_in self.now) index) }
+    // Data fragment `index` of the stripe under this key, if the row has it; it reads back as the
+    // slots that it holds.
+    pub fn data_fragment(&self, key: Key, index: u8) -> Option<Fragment>
+        ensures bytes { result ≡ (if nat_lt (index + 1) self.now.row.servers then Some (data_bytes self.now.row.servers (number_of key) (slots_in self.now) index) else None) }
+        ensures reads { IfSome result (λ f. read_fragment self.now.row.servers (number_of key) index f ≡ Ok (slots_of (slots_in self.now) index)) }
     {
-        if index >= self.row.servers() - 1 {
-            return false;
+        if index >= self.row.data_fragments() {
+            return None;
         }
-        *out = self.slots.fragments[index as usize];
-        set_head(out, self.row, key, index);
-        true
+        let mut fragment = self.slots.fragments[index as usize];
+        let stripe = PlacedStripe { row: self.row, key };
+        set_head(&mut fragment, FragmentName { stripe, index });
+        Some(fragment)
     }
 }

@@ -10,7 +10,8 @@ use fragment::codec::{block_in, read_delta};
 use fragment::delta::Delta;
 use fragment::layout::Layout;
 use geometry::row::RowLength;
-use geometry::sizes::{MOST_SLOTS, SLOTS_IN_FRAGMENT};
+use geometry::sizes::{Block, MOST_SLOTS, SLOTS_IN_FRAGMENT};
+use std::array;
 
 impl StripeBuffer {
     // How many slots are filled.
@@ -30,20 +31,16 @@ impl StripeBuffer {
     pub fn deltas(&self) -> [Option<Delta>; MOST_SLOTS]
         ensures { result ≡ deltas_of (slots_in self.now) }
     {
-        let mut deltas = [None; MOST_SLOTS];
-        for slot in 0..self.filled {
+        array::from_fn(|slot| {
             let fragment = &self.slots.fragments[slot / SLOTS_IN_FRAGMENT];
-            deltas[slot] = read_delta(fragment, Layout::Two, slot % SLOTS_IN_FRAGMENT).unwrap_or(
-                None,
-            );
-        }
-        deltas
+            read_delta(fragment, Layout::Two, slot % SLOTS_IN_FRAGMENT).unwrap_or(None)
+        })
     }
 
     // The bytes of the block in a filled slot.
-    pub fn block(&self, slot: usize) -> Option<&[u8]>
+    pub fn block(&self, slot: usize) -> Option<&Block>
         ensures bytes { option_map (λ x. x.now) result ≡ option_map (λ x. x.bytes) (slot_at (slots_in self.now) slot) }
-        ensures len { MatchOption result (length (slots_in self.now) ≤ slot) (λ b. (slot < length (slots_in self.now)) × (length b.now ≡ block_length)) }
+        ensures known { MatchOption result (length (slots_in self.now) ≤ slot) (λ _. slot < length (slots_in self.now)) }
     {
         if slot >= self.filled {
             return None;

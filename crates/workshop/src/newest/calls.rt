@@ -26,7 +26,7 @@ impl Newest {
     }
 
     // Notes a reading. Of two readings of one tyre the one of the higher version is kept, in
-    // whatever order they come.
+    // whatever order they come. A look-up and an insert: through one entry the proof does not close.
     pub fn note(&mut self, tyre: TyreId, version: u32, kpa: u16) -> Result<(), AllocError>
         ensures noted { MatchResult result (λ _. NotedOnly self.old self.new tyre (record { version = version; kpa = kpa })) (λ _. Unchanged self.old self.new) }
         ensures law { OrderFree }
@@ -44,15 +44,13 @@ impl Newest {
     pub fn low_list(&self, heap: Global) -> Result<Vec<LowTyre>, AllocError>
         ensures { IfOk result (λ list. LowList self.now list.items) }
     {
-        let mut list = Vec::new(heap);
-        for (tyre, noted) in self.noted.iter() {
-            if is_low(noted.kpa) {
-                list.push(LowTyre {
-                    tyre: *tyre,
-                    kpa: noted.kpa,
-                })?;
-            }
-        }
-        Ok(list)
+        self.noted
+            .iter()
+            .filter(|(_, noted)| is_low(noted.kpa))
+            .map(|(tyre, noted)| LowTyre {
+                tyre: *tyre,
+                kpa: noted.kpa,
+            })
+            .collect(heap)
     }
 }

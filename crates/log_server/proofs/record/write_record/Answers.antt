@@ -1,6 +1,6 @@
 use Rattle.std.proofs.Common.{ℕ, List, ◌++◌, ap, ◌∙◌, arith}
 use Rattle.log_server.specs.Records.{lead}
-use Rattle.log_server.proofs.Parts.{put_two}
+use Rattle.geometry.proofs.Parts.{put_two}
 use Rattle.log_server.proofs.record.write_record.Goals as goal
 
 pub returns : goal.returns

@@ -1,21 +1,18 @@
-use Rattle.std.proofs.Common.{ℕ, List, length, ap, arith}
-use Rattle.std.proofs.lemmas.Bool.Decides.{nat_tests}
-use Rattle.std.proofs.lemmas.List.{drop_all}
-use Rattle.log_server.specs.Records.{records}
+use Rattle.std.proofs.Common.{◌≡◌, length, ap, ◌∙◌, rules}
+use Rattle.std.proofs.lemmas.Iterator.{YieldsList-from_slice}
+use Rattle.std.proofs.lemmas.Iterator.Consumers.{YieldsList-at, count_from_yields_List}
+use Rattle.std.proofs.lemmas.Iterator.Search.{YieldsList-from_take_while}
+use borrow.Author.Tests.{tests}
+use Rattle.log_server.specs.Records.{is_held, records_in}
 use Rattle.log_server.specs.Area.{front}
-use Rattle.log_server.proofs.Cuts.{records_from, length_records}
+use Rattle.log_server.proofs.Fronts.{front_is, front_within}
 use Rattle.log_server.proofs.walk.count_held.Goals as goal
-
-pub returns-then-not-is_held : goal.returns-then-not-is_held
-returns-then-not-is_held c =
-    let e = ap (λ (t : List (List ℕ)). length (front t)) (records_from c.loop-i.i c.args.n c.args.area.now c.loop-i-test.true) in grind (arith, nat_tests)
-
-pub loop-i-preserved : goal.loop-i-preserved
-loop-i-preserved c =
-    let e = ap (λ (t : List (List ℕ)). length (front t)) (records_from c.loop-i.i c.args.n c.args.area.now c.loop-i-test.true) in grind (arith, nat_tests)
 
 pub returns : goal.returns
 returns c =
-    let rs : List (List ℕ) = records c.args.n c.args.area.now in
-    let e = ap (λ (t : List (List ℕ)). length (front t)) (drop_all c.loop-i.i rs (let l = length_records c.args.n c.args.area.now in omega arith)) in
-    omega arith
+    let xs = c.args.records.now in
+    let road = YieldsList-at c.take_while.ensures.source (YieldsList-from_slice (records_in xs) cc) in
+    let e : c.count.result ≡ length (front (records_in xs)) =
+    count_from_yields_List _ _ c.count.ensures.ran (YieldsList-from_take_while _ is_held road c.take_while.ensures.closure c.take_while.ensures.done (λ x b q k. search (rules, tests)))
+    ∙ ap length (front_is (records_in xs)) in
+    record { is = e; within = front_within c.count.result xs e }

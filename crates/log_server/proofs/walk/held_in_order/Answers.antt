@@ -1,28 +1,34 @@
-use Rattle.std.proofs.Common.{◌≡◌, ℕ, ◌-◌, ◌*◌, Bool, false, ◌&&◌, length, take, drop, Some, None, sym, ap, ◌∙◌}
-use Rattle.std.proofs.lemmas.Bool.{cond-true, cond-false, and_from, and_left, and_right}
-use Rattle.log_server.specs.Records.{record_length, records, zeros}
-use Rattle.log_server.specs.Area.{pieces, front, apart, in_order}
+use Rattle.std.proofs.Common.{◌≡◌, ℕ, ◌*◌, Bool, true, false, cond, ◌&&◌, length, take, drop, Some, None, sym, refl, ap, ◌∙◌}
+use Rattle.std.specs.Bool.{then_some}
+use Rattle.geometry.specs.Bytes.{zeros}
+use Rattle.log_server.specs.Records.{record_length, records_in}
+use Rattle.log_server.specs.Area.{pieces_in, front, apart}
 use Rattle.log_server.proofs.Areas.{order_is}
 use Rattle.log_server.proofs.walk.held_in_order.Goals as goal
-use Rattle.log_server.proofs.walk.held_in_order.Goals.{else-all_zero-via-then-all_zero+else-keys_apart, else-all_zero-via-else-all_zero}
+use Rattle.log_server.proofs.walk.held_in_order.Goals.{then-all_zero, else-all_zero}
 
-pub returns-then-keys_apart : goal.returns-then-keys_apart
-returns-then-keys_apart c =
-    let xs = c.args.area.now in
-    let n : ℕ = c.args.n in
-    let h : ℕ = c.count_held-held.result in
-    let o = order_is n h xs c.count_held-held.ensures.is ∙ and_from (zeros (take (record_length * n - record_length * h) (drop (record_length * h) xs))) (apart (pieces h xs)) (sym c.if-all_zero.ensures) (sym c.if-keys_apart.ensures) in
-    ap Some c.count_held-held.ensures.is ∙ sym (cond-true (in_order (records n xs)) (Some (length (front (records n xs)))) None o)
+-- `x && y`, where y was asked and where it was not
+asked : (x y t : Bool) → x ≡ true → t ≡ y → t ≡ (x && y)
+asked x y t e q = cc
 
-pub returns-else-all_zero : goal.returns-else-all_zero
-returns-else-all_zero c =
-    let xs = c.args.area.now in
-    let n : ℕ = c.args.n in
+not_asked : (x y t : Bool) → x ≡ false → t ≡ false → t ≡ (x && y)
+not_asked x y t e q = cc
+
+held_if : (t : Bool) (h n : ℕ) → h ≡ n → then_some t h ≡ cond t (Some n) None
+held_if true h n e = ap Some e
+held_if false h n e = refl
+
+pub returns : goal.returns
+returns c =
+    let xs = c.args.records.now in
     let h : ℕ = c.count_held-held.result in
-    let z : Bool = zeros (take (record_length * n - record_length * h) (drop (record_length * h) xs)) in
-    let o : (z && apart (pieces h xs)) ≡ false =
-    elim c.else-all_zero.branch [
-      | else-all_zero-via-then-all_zero+else-keys_apart w ↦ and_right z (apart (pieces h xs)) (sym w.if-keys_apart.ensures)
-      | else-all_zero-via-else-all_zero w ↦ and_left z (apart (pieces h xs)) (sym w.if-all_zero.ensures)
+    let z : Bool = zeros (drop (record_length * h) xs) in
+    let a : Bool = apart (pieces_in (take (record_length * h) xs)) in
+    let e : c.all_zero.result ≡ z = c.all_zero.ensures ∙ ap zeros c.split_at.ensures.back in
+    let b : c.if-all_zero.then_some ≡ (z && a) =
+    elim c.if-all_zero.branch [
+      | then-all_zero w ↦ asked z a c.if-all_zero.then_some (sym e ∙ w.if-all_zero.true) (w.then_some-is ∙ w.keys_apart.ensures ∙ ap (λ xs. apart (pieces_in xs)) c.split_at.ensures.front)
+      | else-all_zero w ↦ not_asked z a c.if-all_zero.then_some (sym e ∙ w.if-all_zero.false) (w.then_some-is ∙ w.if-all_zero.false)
     ] in
-    sym (cond-false (in_order (records n xs)) (Some (length (front (records n xs)))) None (order_is n h xs c.count_held-held.ensures.is ∙ o))
+    c.then_some.ensures ∙ held_if c.if-all_zero.then_some h (length (front (records_in xs))) c.count_held-held.ensures.is
+    ∙ ap (λ (t : Bool). cond t (Some (length (front (records_in xs)))) None) (b ∙ sym (order_is h xs c.requires c.count_held-held.ensures.is))

@@ -1,22 +1,17 @@
-use Rattle.std.proofs.Common.{ℕ, ◌+◌, List, drop, Option, sym, ap, ◌∙◌, arith}
-use Rattle.std.proofs.lemmas.List.{drop_all}
-use Rattle.server.specs.Meaning.{Piece}
-use Rattle.log_server.specs.Area.{pieces}
-use Rattle.log_server.specs.Walks.{nearer}
-use Rattle.log_server.proofs.Cuts.{pieces_from, length_pieces}
-use Rattle.log_server.proofs.Places.{nearest, nearest_is}
+use Rattle.std.proofs.Common.{leb, sym, ◌∙◌, rules}
+use Rattle.std.proofs.lemmas.Iterator.{YieldsList-from_map, YieldsList-from_slice}
+use Rattle.std.proofs.lemmas.Iterator.Adapters.{option_map_id}
+use Rattle.std.proofs.lemmas.Iterator.Consumers.{YieldsList-at, YieldsList-from_filter, min_from_yields_List}
+use borrow.Author.Tests.{tests}
+use Rattle.log_server.specs.Records.{record_key, records_in}
+use Rattle.log_server.proofs.Places.{least_is}
 use Rattle.log_server.proofs.walk.nearest.Goals as goal
-
-pub loop-i-preserved : goal.loop-i-preserved
-loop-i-preserved c =
-    let from = c.args.from in
-    let later : List Piece = drop (c.loop-i.i + 1) (pieces c.args.held c.args.area.now) in
-    ap (λ (b : Option ℕ). nearest from b later) (c.nearer-best.ensures ∙ ap (λ (k : ℕ). nearer from k c.loop-i.best) c.key_at-key.ensures)
-    ∙ sym (ap (nearest from c.loop-i.best) (pieces_from c.loop-i.i c.args.held c.args.area.now c.loop-i-test.true))
-    ∙ c.loop-i.invariant
 
 pub returns : goal.returns
 returns c =
-    let ps : List Piece = pieces c.args.held c.args.area.now in
-    let l = length_pieces c.args.held c.args.area.now in
-    sym (ap (nearest c.args.from c.loop-i.best) (drop_all c.loop-i.i ps (omega arith))) ∙ c.loop-i.invariant ∙ nearest_is c.args.from ps
+    sym (option_map_id c.min.result)
+    ∙ min_from_yields_List _ c.min.result c.min.ensures.ran
+    (YieldsList-from_filter _ (leb c.args.from) (YieldsList-at c.filter.ensures.source
+    (YieldsList-from_map _ record_key (YieldsList-at c.map.ensures.source (YieldsList-from_slice (records_in c.args.records.now) cc)) c.map.ensures.closure (λ x r q k. search rules)))
+    c.filter.ensures.closure (λ x b q k. search (rules, tests)))
+    ∙ least_is c.args.from (records_in c.args.records.now)

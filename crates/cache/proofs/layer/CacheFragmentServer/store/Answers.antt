@@ -15,7 +15,7 @@ returns-in_err-store g c =
     let e = c.store.ensures in
     let slots : ss ≡ cond (is_ok r) (forgotten k ss) ss = search rules in
     let s = stored (g.S.FragmentServer.meaning below) (g.S.FragmentServer.sound below) ss ss _ k r slots e.coherent _ (search rules) e.after in
-    record { answer = s.0; after = s.1; coherent = s.2; below = e.after; slots = slots; turn = search rules }
+    record { answer = s.0; after = s.1; coherent = s.2; below = e.after; slots = (slots, search rules) }
 
 pub returns : goal.returns
 returns g c =
@@ -24,4 +24,4 @@ returns g c =
     let e = c.in_ok-store.ensures in
     let slots = c.forget.ensures.all in
     let s = stored (g.S.FragmentServer.meaning below) (g.S.FragmentServer.sound below) ss _ _ _ _ slots e.coherent _ e.answer e.after in
-    record { answer = s.0; after = s.1; coherent = s.2; below = e.after; slots = slots; turn = c.forget.ensures.turn }
+    record { answer = s.0; after = s.1; coherent = s.2; below = e.after; slots = (slots, c.forget.ensures.turn) }

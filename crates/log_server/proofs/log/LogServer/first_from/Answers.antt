@@ -1,25 +1,31 @@
-use Rattle.std.proofs.Common.{◌≡◌, ℕ, ◌*◌, ◌^◌, ltb, Some, None, ap, ◌∙◌, arith, lt-ltb}
-use Rattle.std.proofs.lemmas.Bool.{cond-true}
+use Rattle.std.proofs.Common.{◌≡◌, ℕ, ◌*◌, ◌^◌, ◌<◌, ◌≤◌, List, Some, Ok, Err, Option, Result, MatchResult, sym, ap, ◌∙◌, arith}
+use Rattle.std.specs.Result.{result_ok}
 use Rattle.ordered.specs.Maps.{least}
-use Rattle.geometry.specs.Keys.{number_of}
-use Rattle.server.specs.Meaning.{piece_key, key_in, key_from}
-use Rattle.log_server.specs.Area.{pieces, map_of, area_meaning}
-use Rattle.log_server.proofs.Areas.{area_kept}
-use Rattle.log_server.proofs.Meanings.{from_is, from_small}
+use Rattle.geometry.specs.declared.key.Key.{Key}
+use Rattle.geometry.specs.declared.key.numbers.NotAKey.{NotAKey}
+use Rattle.geometry.specs.Keys.{number_of, number_in}
+use Rattle.server.specs.Meaning.{Piece, piece_key, key_in, key_from}
+use Rattle.log_server.specs.Area.{area_pieces, map_of, area_meaning}
+use Rattle.log_server.proofs.Meanings.{from_small}
 use Rattle.log_server.proofs.log.LogServer.first_from.Goals as goal
 
-pub nearest-requires : goal.nearest-requires
-nearest-requires c = let k = area_kept c.args.self.now.bytes.now in omega arith
+-- what the walk found
+from_is : (xs : List ℕ) (ps : List Piece) (k q : ℕ) (o : Option ℕ) → o ≡ key_in (least piece_key (map_of ps) q) → ps ≡ area_pieces xs → q ≡ k → o ≡ key_from (area_meaning xs) k
+from_is xs ps k q o e p s = e ∙ ap (λ (ps : List Piece). key_in (least piece_key (map_of ps) q)) p ∙ ap (λ (j : ℕ). key_in (least piece_key (map_of (area_pieces xs)) j)) s
 
-pub returns-in-Some : goal.returns-in-Some
-returns-in-Some c =
-    let xs = c.args.self.now.bytes.now in
-    let n : ℕ = c.in-Some.number in
-    let e : Some n ≡ key_from (area_meaning xs) (number_of c.args.key) =
-    c.in-Some.ensures ∙ ap (λ (k : ℕ). key_in (least piece_key (map_of (pieces c.args.self.now.held xs)) k)) c.number.ensures ∙ from_is xs (number_of c.args.key) c.args.self.now.held c.args.self.now.count in
-    c.from_number.ensures ∙ cond-true (ltb n (8 * 2 ^ 32)) (Some n) None (lt-ltb n (8 * 2 ^ 32) (from_small xs (number_of c.args.key) n e)) ∙ e
+pub returns-in_err-number : goal.returns-in_err-number
+returns-in_err-number c =
+    ap number_in c.from_residual.ensures ∙ sym c.in_err-number.was
+    ∙ from_is c.args.self.now.bytes.now _ (number_of c.args.key) c.from.result c.nearest.result c.nearest.ensures c.held_records.ensures c.from.ensures
 
-pub returns-in-None : goal.returns-in-None
-returns-in-None c =
+key_of : (r : Result Key NotAKey) (n : ℕ) → n < 8 * 2 ^ 32 → MatchResult r (λ key. number_of key ≡ n) (λ _. 8 * 2 ^ 32 ≤ n) → number_in (result_ok r) ≡ Some n
+key_of (Ok key) n l m = ap Some m
+key_of (Err _) n l m = absurd (omega arith)
+
+pub returns : goal.returns
+returns c =
     let xs = c.args.self.now.bytes.now in
-    c.in-None.ensures ∙ ap (λ (k : ℕ). key_in (least piece_key (map_of (pieces c.args.self.now.held xs)) k)) c.number.ensures ∙ from_is xs (number_of c.args.key) c.args.self.now.held c.args.self.now.count
+    let k : ℕ = number_of c.args.key in
+    let n : ℕ = c.in_ok-number.number in
+    let e : Some n ≡ key_from (area_meaning xs) k = sym c.in_ok-number.was ∙ from_is xs _ k c.from.result c.nearest.result c.nearest.ensures c.held_records.ensures c.from.ensures in
+    ap number_in c.ok.ensures.value ∙ key_of c.try_from.result n (from_small xs k n e) c.try_from.ensures ∙ e

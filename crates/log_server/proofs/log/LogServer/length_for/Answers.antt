@@ -1,6 +1,5 @@
-use Rattle.std.proofs.Common.{rules}
 use Rattle.log_server.proofs.Laws.{examples}
 use Rattle.log_server.proofs.log.LogServer.length_for.Goals as goal
 
-pub returns : goal.returns
-returns c = record { length = search rules; examples = examples }
+pub returns-clause-examples : goal.returns-clause-examples
+returns-clause-examples c = examples

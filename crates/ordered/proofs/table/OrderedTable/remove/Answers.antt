@@ -1,6 +1,5 @@
-use Rattle.std.proofs.Common.{rules}
-use Rattle.ordered.proofs.Maps.{without_absent}
+use Rattle.ordered.proofs.Places.{removed}
 use Rattle.ordered.proofs.table.OrderedTable.remove.Goals as goal
 
-pub returns-in-Err : goal.returns-in-Err
-returns-in-Err g c = search (rules, without_absent)
+pub invariant_of-self : goal.invariant_of-self
+invariant_of-self g c = record { rises = (removed g.E.Keyed.number _ _ _ _ c.args.self.now.rises c.in-Ok.ensures.place c.remove_at.ensures.items).1 }

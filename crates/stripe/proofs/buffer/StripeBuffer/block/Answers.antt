@@ -4,7 +4,6 @@ use Rattle.fragment.specs.Slots.{Filled, slot_bytes}
 use Rattle.stripe.specs.Contents.{slot_at}
 use Rattle.stripe.specs.Buffers.{no_slot, bytes_at}
 use Rattle.stripe.specs.Means.{slots_in}
-use Rattle.stripe.proofs.Fairs.{all_fair}
 use Rattle.stripe.proofs.Filling.{length_slots, slot_there, slot_past, bytes_formed}
 use Rattle.stripe.proofs.buffer.StripeBuffer.block.Goals as goal
 
@@ -16,14 +15,14 @@ blocked : (r : Option (Bor (List ℕ))) (j : ℕ) (w : List ℕ) (xs : List Fill
 blocked None j w xs m h k e v = absurd (omega arith)
 blocked (Some b) j w xs m h k e v = ap Some (v.1 ∙ ap (drop 32) e) ∙ ap bytes_of (sym (slot_there xs m no_slot k))
 
-long : (r : Option (Bor (List ℕ))) (j : ℕ) (xs : List Filled) (m : ℕ) → j < 3 → m < length xs → MatchOption r (3 ≤ j) (λ b. length b.now ≡ 128) → MatchOption r (length xs ≤ m) (λ b. (m < length xs) × (length b.now ≡ 128))
-long None j xs m h k l = absurd (omega arith)
-long (Some b) j xs m h k l = (k, l)
+there : (r : Option (Bor (List ℕ))) (j : ℕ) (w : List ℕ) (xs : List Filled) (m : ℕ) → j < 3 → m < length xs → MatchOption r (3 ≤ j) (λ b. (j < 3) × (b.now ≡ drop 32 w)) → MatchOption r (length xs ≤ m) (λ _. m < length xs)
+there None j w xs m h k v = absurd (omega arith)
+there (Some b) j w xs m h k v = k
 
 pub returns-then-slot-self : goal.returns-then-slot-self
 returns-then-slot-self c =
     let l = length_slots c.args.self.now in
-    record { bytes = sym (ap bytes_of (slot_past (slots_in c.args.self.now) c.args.slot (omega arith))); len = omega arith }
+    record { bytes = sym (ap bytes_of (slot_past (slots_in c.args.self.now) c.args.slot (omega arith))); known = omega arith }
 
 pub returns : goal.returns
 returns c =
@@ -36,6 +35,6 @@ returns c =
     record {
       bytes =
           blocked c.block_in.result (m % 3) (bytes_at b.slots.fragments m) xs m h k
-          (bytes_formed b.slots.fragments b.filled m b.formed (all_fair xs b.fair) (omega arith) (omega arith)) c.block_in.ensures.value;
-      len = long c.block_in.result (m % 3) xs m h k c.block_in.ensures.len;
+          (bytes_formed b.slots.fragments b.filled m b.formed b.fair (omega arith) (omega arith)) c.block_in.ensures;
+      known = there c.block_in.result (m % 3) (bytes_at b.slots.fragments m) xs m h k c.block_in.ensures;
     }

@@ -1,10 +1,13 @@
-use Rattle.std.proofs.Common.{ap, ◌∙◌, arith, rules}
+use Rattle.std.proofs.Common.{◌≡◌, ◌+◌, Bool, true, false, cond, Some, None, ap, ◌∙◌, arith, lt-ltb}
 use Rattle.geometry.specs.Keys.{number_of}
 use Rattle.fragment.specs.Fragments.{read_fragment}
 use Rattle.stripe.specs.Means.{slots_in}
-use Rattle.stripe.proofs.Fairs.{all_fair}
 use Rattle.stripe.proofs.Filling.{headed, reads_again}
 use Rattle.stripe.proofs.buffer.StripeBuffer.data_fragment.Goals as goal
+
+there : {A : Type 0} (b : Bool) {x y : A} → b ≡ true → x ≡ y → Some x ≡ cond b (Some y) None
+there true e p = ap Some p
+there false e p = cc
 
 pub returns : goal.returns
 returns c =
@@ -14,7 +17,6 @@ returns c =
     let written =
     c.set_head.ensures ∙ headed n k c.args.index xs c.args.self.now.slots.fragments c.args.self.now.formed (omega arith) in
     record {
-      known = search rules;
-      after = written;
-      reads = λ _. ap (read_fragment n k c.args.index) written ∙ reads_again n k c.args.index xs (omega arith) (all_fair xs c.args.self.now.fair);
+      bytes = there _ (lt-ltb (c.args.index + 1) n (omega arith)) written;
+      reads = ap (read_fragment n k c.args.index) written ∙ reads_again n k c.args.index xs (omega arith) c.args.self.now.fair;
     }

@@ -1,14 +1,11 @@
-use Rattle.std.proofs.Common.{◌≡◌, ℕ, ◌^◌, ◌<◌, ◌≤◌, true, List, length, sym, refl, ap, ◌∙◌, ⊎_elim, arith, le-ltb, lt-ltb}
-use Rattle.std.specs.List.{list_all}
-use Rattle.std.proofs.lemmas.Bool.{and_from, and_left, and_right}
+use Rattle.std.proofs.Common.{◌≡◌, ℕ, ◌^◌, ◌<◌, ◌≤◌, true, List, length, sym, refl, arith, le-ltb, lt-ltb}
+use Rattle.std.proofs.lemmas.Bool.{and_from, and_right}
 use Rattle.fragment.specs.declared.delta.Kind.{Kind}
 use Rattle.fragment.specs.declared.delta.Kind.TheVariants.{Write, Trim}
 use Rattle.fragment.specs.declared.delta.Delta.{Delta}
 use Rattle.fragment.specs.Slots.{Fair, filled_with, content_of, content_fits}
-use Rattle.stripe.specs.Buffers.{is_fair}
 use Rattle.stripe.specs.Means.{slots_in}
 use Rattle.geometry.specs.Sizes.{slot_count}
-use Rattle.stripe.proofs.Fairs.{all_fair, fair_all}
 use Rattle.stripe.proofs.Filling.{length_slots, still_fair, slots_grown, still_formed}
 use Rattle.stripe.proofs.buffer.StripeBuffer.fill.Goals as goal
 
@@ -34,35 +31,28 @@ new d block f b m v s l =
 
 pub invariant_of-self : goal.invariant_of-self
 invariant_of-self c =
-    let few : c.args.self.now.filled < 21 = omega arith in
+    let b = c.args.self.now in
+    let few : b.filled < 21 = omega arith in
     let x = new c.args.delta c.args.block.now (omega arith) (omega arith) (omega arith) (omega arith) (omega arith) (omega arith) in
-    let old = all_fair _ c.args.self.now.fair in
-    let grown = slots_grown _ _ c.args.self.now.filled _ few c.args.self.now.formed old x c.put.ensures in
     record {
       few = omega arith;
-      formed = still_formed _ _ c.args.self.now.filled _ few c.args.self.now.formed old x c.put.ensures;
-      fair = ap (list_all is_fair) grown ∙ fair_all _ (still_fair _ _ c.args.self.now.filled _ few c.args.self.now.formed old x c.put.ensures);
+      formed = still_formed _ _ b.filled _ few b.formed b.fair x c.put.ensures;
+      fair = still_fair _ _ b.filled _ few b.formed b.fair x c.put.ensures;
     }
 
-pub returns-then-delta-eq0 : goal.returns-then-delta-eq0
-returns-then-delta-eq0 c =
+pub returns-then-next-slots-clause-room : goal.returns-then-next-slots-clause-room
+returns-then-next-slots-clause-room c =
     let long = length_slots c.args.self.now in
-    record {
-      room =
-          sym (⊎_elim (λ z. and_left _ _ (le-ltb 0 c.args.delta.version (omega arith))) (λ f. and_right _ _ (le-ltb (length (slots_in c.args.self.now)) (slot_count c.args.self.now.row.servers) (omega arith))) c.then-delta-eq0.either);
-      slots = refl;
-      row = refl;
-      bytes = refl;
-    }
+    sym (and_right _ _ (le-ltb (length (slots_in c.args.self.now)) (slot_count c.args.self.now.row.servers) (omega arith)))
 
-pub returns : goal.returns
-returns c =
-    let few : c.args.self.now.filled < 21 = omega arith in
+pub returns-clause-room : goal.returns-clause-room
+returns-clause-room c =
+    let long = length_slots c.args.self.now in
+    sym (and_from _ _ (lt-ltb 0 c.args.delta.version (omega arith)) (lt-ltb _ _ (omega arith)))
+
+pub returns-clause-slots : goal.returns-clause-slots
+returns-clause-slots c =
+    let b = c.args.self.now in
+    let few : b.filled < 21 = omega arith in
     let x = new c.args.delta c.args.block.now (omega arith) (omega arith) (omega arith) (omega arith) (omega arith) (omega arith) in
-    let long = length_slots c.args.self.now in
-    record {
-      room = sym (and_from _ _ (lt-ltb 0 c.args.delta.version (omega arith)) (lt-ltb _ _ (omega arith)));
-      slots = slots_grown _ _ c.args.self.now.filled _ few c.args.self.now.formed (all_fair _ c.args.self.now.fair) x c.put.ensures;
-      row = refl;
-      bytes = c.put.ensures;
-    }
+    slots_grown _ _ b.filled _ few b.formed b.fair x c.put.ensures

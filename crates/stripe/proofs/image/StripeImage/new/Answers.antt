@@ -1,4 +1,4 @@
-use Rattle.std.proofs.Common.{◌≡◌, ℕ, suc, ◌+◌, ◌-◌, ◌<◌, Bool, true, cond, List, [], ◌∷◌, map, length, get_or, take, drop, set, sym, refl, ap, ◌∙◌, arith, length-set, get_or-set_other, get_or-take, get_or-set_same, rules, below_more, lt-ltb}
+use Rattle.std.proofs.Common.{◌≡◌, ℕ, suc, ◌+◌, ◌-◌, ◌<◌, ◌≤◌, Bool, true, false, cond, List, [], ◌∷◌, map, length, get_or, take, set, Some, None, Option, sym, ap, ◌∙◌, arith, get_or-take, length-set, get_or-set_other, get_or-set_same, below_more, lt-ltb}
 use Rattle.std.specs.List.{range_with_len}
 use Rattle.std.proofs.lemmas.List.FromFn.{fill_by_all}
 use Rattle.std.proofs.lemmas.List.{length-take-le}
@@ -12,46 +12,53 @@ use Rattle.stripe.specs.Means.{slots_in}
 use Rattle.stripe.specs.Rows.{pieces}
 use Rattle.stripe.proofs.Rounds.{missing_is_the_others}
 use Rattle.stripe.proofs.image.StripeImage.new.Goals as goal
+use Rattle.stripe.proofs.image.StripeImage.new.Goals.{in-Some, in_default}
 
 -- the parity in front of the data fragments
-fronted : (m : ℕ) (ps : List (List ℕ)) (g : ℕ → List ℕ) (parity : List ℕ) → m < length ps → ((i : ℕ) → i < m → get_or ps (i + 1) [] ≡ g i) → parity ≡ xor_all (take m (drop 1 ps)) → take (suc m) (set ps 0 parity) ≡ pieces (map g (range_with_len 0 m))
-fronted m [] g parity h each e = absurd (omega arith)
-fronted m (p ∷ ps) g parity h each e =
-    let rest : take m ps ≡ map g (range_with_len 0 m) =
-    fill_by_all g (take m ps) m [] (length-take-le m ps (omega arith))
-    (λ k l. get_or-take m ps k [] l ∙ ap (λ t. get_or (p ∷ ps) t []) (let s : suc k ≡ k + 1 = omega arith in s) ∙ each k l) in
+fronted : (m : ℕ) (ps : List (List ℕ)) (g : ℕ → List ℕ) (parity : List ℕ) → m ≤ length ps → ((i : ℕ) → i < m → get_or ps i [] ≡ g i) → parity ≡ xor_all (take m ps) → take (suc m) (parity ∷ ps) ≡ pieces (map g (range_with_len 0 m))
+fronted m ps g parity h each e =
+    let rest : take m ps ≡ map g (range_with_len 0 m) = fill_by_all g (take m ps) m [] (length-take-le m ps h) (λ k l. get_or-take m ps k [] l ∙ each k l) in
     ap (λ t. t ∷ take m ps) e ∙ ap (λ t. xor_all t ∷ t) rest
 
-taken : (b : Bool) (x y : List ℕ) → b ≡ true → cond b x y ≡ x
-taken b x y e = rw e
+-- one fragment more
+one_more : (n : ℕ) (items after : List (List ℕ)) (j : ℕ) (v : List ℕ) (g : ℕ → List ℕ) → after ≡ set items j v → j < 7 → length items ≡ 7 → ((i : ℕ) → i < j → i + 1 < n → get_or items i [] ≡ g i) → (j + 1 < n → v ≡ g j) → (length after ≡ 7) × ((i : ℕ) → i < j + 1 → i + 1 < n → get_or after i [] ≡ g i)
+one_more n items after j v g e h long each here = (
+  ap length e ∙ length-set items j v ∙ long,
+  below_more (λ i. i + 1 < n → get_or after i [] ≡ g i) j
+      (λ i l r. ap (λ t. get_or t i []) e ∙ get_or-set_other items j i v [] (λ q. omega arith) ∙ each i l r)
+      (λ r. ap (λ t. get_or t j []) e ∙ get_or-set_same items j v [] (omega arith) ∙ here r),
+)
+
+-- what the row has is there
+there : (b : Bool) {o : Option (List ℕ)} {x : List ℕ} → b ≡ true → o ≡ cond b (Some x) None → o ≡ Some x
+there true p e = e
+there false p e = cc
+
+unwrapped : {x y : List ℕ} → Some x ≡ Some y → x ≡ y
+unwrapped e = cc
 
 pub loop-index-preserved : goal.loop-index-preserved
 loop-index-preserved c =
-    let long : length c.loop-index.pieces ≡ 8 = c.loop-index.invariant.0 in
-    let same : c.args.buffer.now.row.servers ≡ c.row-row.result.servers = ap (λ (r : RowLength). r.servers) (sym c.row-row.ensures) in
-    let there : c.data_fragment.result ≡ true = c.data_fragment.ensures.known ∙ lt-ltb _ _ (omega arith) in (
-      length-set c.loop-index.pieces (c.loop-index.index + 1) _ ∙ long,
-      below_more _ _
-          (λ i h. get_or-set_other c.loop-index.pieces (c.loop-index.index + 1) (i + 1) _ [] (λ e. omega arith) ∙ c.loop-index.invariant.1 i h)
-          (get_or-set_same c.loop-index.pieces (c.loop-index.index + 1) _ [] (omega arith)
-          ∙ c.data_fragment.ensures.after ∙ taken _ _ _ there
-          ∙ ap (λ n. data_bytes n (number_of c.args.key) (slots_in c.args.buffer.now) c.loop-index.index) same),
-    )
+    let n = c.row-row.result.servers in
+    let same : n ≡ c.args.buffer.now.row.servers = ap (λ (r : RowLength). r.servers) c.row-row.ensures in
+    let g : ℕ → List ℕ = λ i. data_bytes n (number_of c.args.key) (slots_in c.args.buffer.now) i in
+    elim c.match-data_fragment.branch [
+      | in-Some w ↦ one_more n c.loop-index.fragment-items _ c.loop-index.index _ g w.fragment-items-is c.loop-index-test.true c.loop-index.invariant.0 c.loop-index.invariant.1
+          (λ h. unwrapped (there _ (lt-ltb _ _ (omega arith)) w.in-Some.ensures.bytes) ∙ ap (λ m. data_bytes m (number_of c.args.key) (slots_in c.args.buffer.now) c.loop-index.index) (sym same))
+      | in_default w ↦ one_more n c.loop-index.fragment-items _ c.loop-index.index _ g w.fragment-items-is c.loop-index-test.true c.loop-index.invariant.0 c.loop-index.invariant.1
+          (λ h. absurd (w.in_default.not-Some _ (there _ (lt-ltb _ _ (omega arith)) c.data_fragment.ensures.bytes)))
+    ]
 
-pub returns : goal.returns
-returns c =
-    let n : ℕ = c.row-row.result.servers in
-    let k : ℕ = number_of c.args.key in
-    let s : c.row-row.result.servers ≡ suc (c.row-row.result.servers - 1) = omega arith in
-    let front =
-    fronted (c.row-row.result.servers - 1) c.loop-index.pieces (data_bytes n k (slots_in c.args.buffer.now)) c.xor_all.new.out (omega (arith, c.loop-index.invariant.0)) (λ i h. c.loop-index.invariant.1 i (omega arith)) (cc c.xor_all.ensures.sum) in
-    record {
-      row = search rules;
-      key = refl;
-      each =
-          λ u h.
-          let b : steps_on n k u < suc (c.row-row.result.servers - 1) = omega (arith, steps_below c.row-row.result.servers k (omega arith) u) in
-          sym (get_or-take (suc (c.row-row.result.servers - 1)) (set c.loop-index.pieces 0 c.xor_all.new.out) (steps_on n k u) [] b)
-          ∙ ap (λ t. get_or t (steps_on n k u) []) front;
-      missing = missing_is_the_others;
-    }
+pub returns-clause-each : goal.returns-clause-each
+returns-clause-each c =
+    let n = c.row-row.result.servers in
+    let k = number_of c.args.key in
+    let items = c.loop-index.fragment-items in
+    let front = fronted (n - 1) items (data_bytes n k (slots_in c.args.buffer.now)) c.xor_all.new.out (omega (arith, c.loop-index.invariant.0)) (λ i h. c.loop-index.invariant.1 i (omega arith) (omega arith)) (cc c.xor_all.ensures.sum) in
+    λ u h.
+    let b : steps_on n k u < suc (n - 1) = omega (arith, steps_below n k (omega arith) u) in
+    sym (get_or-take (suc (n - 1)) (c.xor_all.new.out ∷ items) (steps_on n k u) [] b)
+    ∙ ap (λ t. get_or t (steps_on n k u) []) front
+
+pub returns-clause-missing : goal.returns-clause-missing
+returns-clause-missing c = missing_is_the_others

@@ -4,7 +4,8 @@ use Rattle.stripe.specs.Contents.{data_bytes}
 use Rattle.stripe.specs.Means.{slots_in}
 use Rattle.stripe.proofs.image.StripeImage.new.Given as goal
 
+-- the row's data fragments so far
 abbrev pub invariant-loop-index : goal.invariant-loop-index
 invariant-loop-index l =
-    (length l.pieces ≡ 8)
-    × ((i : ℕ) → i < l.index → get_or l.pieces (i + 1) [] ≡ data_bytes l.row.servers (number_of l.key) (slots_in l.buffer) i)
+    (length l.fragment-items ≡ 7)
+    × ((i : ℕ) → i < l.index → i + 1 < l.row.servers → get_or l.fragment-items i [] ≡ data_bytes l.row.servers (number_of l.key) (slots_in l.buffer) i)

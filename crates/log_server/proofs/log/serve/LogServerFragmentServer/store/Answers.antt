@@ -1,46 +1,18 @@
-use Rattle.std.proofs.Common.{◌≡◌, ℕ, ◌<◌, true, false, eqb, List, length, Ok, Err, sym, refl, ap, ◌∙◌, arith, MutBor}
+use Rattle.std.proofs.Common.{◌≡◌, ℕ, ◌<◌, false, eqb, List, length, Ok, Err, sym, ap, ◌∙◌, arith, MutBor}
 use borrow.Author.Tests.{eqb-false}
-use Rattle.server.specs.declared.fault.ServerFault.TheVariants.{Held, Full}
+use Rattle.ordered.specs.declared.fault.MapFault.TheVariants.{Held, Full}
 use Rattle.geometry.specs.Keys.{number_of}
 use Rattle.server.specs.Meaning.{holds, free}
 use Rattle.log_server.specs.Records.{held_record}
 use Rattle.log_server.specs.Area.{area_pieces, area_places, area_meaning}
 use Rattle.log_server.specs.Calls.{with_record}
-use Rattle.log_server.proofs.Areas.{area_kept}
+use Rattle.log_server.proofs.Areas.{area_kept, written}
 use Rattle.log_server.proofs.Meanings.{cond_two, free_is, held_record_lem, store_counts, store_means}
 use Rattle.log_server.proofs.log.serve.LogServerFragmentServer.store.Goals as goal
-
-pub returns-then-is_full : goal.returns-then-is_full
-returns-then-is_full c =
-    let xs = c.args.self.now.bytes.now in
-    let k = number_of c.args.key in
-    let h : holds (area_meaning xs) k ≡ false = sym c.if-has.ensures in
-    let f : eqb (free (area_meaning xs)) 0 ≡ true = sym c.if-is_full.ensures in
-    record {
-      answer = sym (cond_two _ _ _ h f);
-      after = sym (cond_two _ _ _ h f);
-      coherent = λ u. u;
-      bytes = sym (cond_two _ _ _ h f);
-      same = refl;
-    }
 
 -- places are left
 room : (xs : List ℕ) → false ≡ eqb (free (area_meaning xs)) 0 → length (area_pieces xs) < area_places xs
 room xs f = let k = area_kept xs in let e = free_is xs in let g = eqb-false (free (area_meaning xs)) 0 (sym f) in omega (arith, g)
-
-pub put_record-requires : goal.put_record-requires
-put_record-requires c =
-    let k = area_kept c.args.self.now.bytes.now in
-    let e = ap (λ (b : MutBor (List ℕ)). length b.now) c.replace-area.ensures.value in
-    let r = room c.args.self.now.bytes.now c.if-is_full.ensures in
-    omega arith
-
-pub overflow_add-self : goal.overflow_add-self
-overflow_add-self c = let k = area_kept c.args.self.now.bytes.now in omega arith
-
--- the bytes that are left
-left : (xs ys zs r : List ℕ) (h : ℕ) → ys ≡ xs → h ≡ length (area_pieces xs) → zs ≡ with_record ys h r → zs ≡ with_record xs (length (area_pieces xs)) r
-left xs ys zs r h e p q = q ∙ ap (λ (t : List ℕ). with_record t h r) e ∙ ap (λ (i : ℕ). with_record xs i r) p
 
 pub invariant_of-self : goal.invariant_of-self
 invariant_of-self c =
@@ -50,7 +22,7 @@ invariant_of-self c =
     let r : List ℕ = held_record key.client key.stripe c.args.bytes.now in
     let w = held_record_lem key.client key.stripe c.args.bytes.now key.known key.narrow c.told-bytes in
     let a = store_counts xs r (number_of key) c.args.bytes.now w.0 w.1 w.2 (sym c.if-has.ensures) (room xs c.if-is_full.ensures) in
-    let b = left xs c.replace-area.result.now c.put_record.new.area r s.held (ap (λ (b : MutBor (List ℕ)). b.now) c.replace-area.ensures.value) s.count c.put_record.ensures in
+    let b = written (λ t h. with_record t h r) c.take-area.result s.bytes c.put_record.new.area s.held c.take-area.ensures.value s.count c.put_record.ensures in
     let n = ap (λ (t : List ℕ). length (area_pieces t)) b in
     record { places = s.places ∙ sym (ap area_places b ∙ a.0); count = omega (arith, a.1) }
 
@@ -64,11 +36,9 @@ returns c =
     let h : holds (area_meaning xs) k ≡ false = sym c.if-has.ensures in
     let f : eqb (free (area_meaning xs)) 0 ≡ false = sym c.if-is_full.ensures in
     let w = held_record_lem key.client key.stripe c.args.bytes.now key.known key.narrow c.told-bytes in
-    let b = left xs c.replace-area.result.now c.put_record.new.area r s.held (ap (λ (b : MutBor (List ℕ)). b.now) c.replace-area.ensures.value) s.count c.put_record.ensures ∙ sym (cond_two xs xs (with_record xs (length (area_pieces xs)) r) h f) in
+    let b = written (λ t h. with_record t h r) c.take-area.result s.bytes c.put_record.new.area s.held c.take-area.ensures.value s.count c.put_record.ensures ∙ sym (cond_two xs xs (with_record xs (length (area_pieces xs)) r) h f) in
     record {
       answer = sym (cond_two (Err Held) (Err Full) (Ok tt) h f);
       after = ap area_meaning b ∙ store_means xs r k c.args.bytes.now w.0 w.1 w.2;
-      coherent = λ u. u;
-      bytes = b;
-      same = ap (λ (b : MutBor (List ℕ)). b.ghost_name) c.replace-area.ensures.value;
+      area = record { bytes = b; same = ap (λ (b : MutBor (List ℕ)). b.ghost_name) c.take-area.ensures.value };
     }

@@ -1,0 +1,19 @@
+-- What of a log lies on which server.
+use Rattle.std.specs.Prelude.{◌≡◌, ℕ, ◌<◌, false, List, map, filter}
+use Rattle.std.specs.List.{range_with_len}
+use Rattle.geometry.specs.Keys.{key_number, is_key}
+use Rattle.server.specs.Meaning.{Meaning, holds}
+use Rattle.row.specs.Rows.{at}
+use Rattle.row_packing.specs.declared.fault.PackFault.{PackFault}
+use Rattle.row_packing.specs.declared.fault.PackFault.TheVariants.{Memory, Spent, Refused, Bad}
+
+-- the keys of the client's first stripes that server s holds
+abbrev pub held_of : List Meaning → ℕ → ℕ → ℕ → List ℕ
+held_of row client count s = filter (holds (at row s)) (map (key_number client) (range_with_len 0 count))
+
+-- what a listing of them stops by: no memory, or a stripe's number that no key has
+abbrev pub StopsBy : ℕ → ℕ → PackFault → Type 0
+StopsBy client count Memory = Unit {0}
+StopsBy client count Spent = (j : ℕ) × (j < count) × (is_key client j ≡ false)
+StopsBy client count (Refused fault) = ⊥
+StopsBy client count (Bad cause) = ⊥
