@@ -16,7 +16,8 @@ use crate::name::FragmentName;
 use crate::slot::{Slot, read_slot, write_slot};
 use geometry::sizes::{Block, DELTA_LENGTH, Fragment, HEAD_LENGTH, SLOT_LENGTH, SLOTS_IN_FRAGMENT};
 
-// The bytes of one slot. Its callers test the number: a type for three numbers would be no plainer.
+// The bytes of one slot. Its callers know that the number is below three: a type for it would be no
+// plainer. A fragment and a number of a slot stay two parameters, here and below: callers have them apart.
 fn slot_in(fragment: &Fragment, slot: usize) -> &Slot
     requires { slot < slots_in_fragment }
     ensures { result.now ≡ slot_in fragment.now slot }

@@ -65,7 +65,8 @@ fn kind_in(layout: Layout, byte: u8) -> Option<Kind>
     }
 }
 
-// What follows are the steps of reading one slot, each of a layout and the slot's bytes.
+// What follows are the steps of reading one slot. Most take a layout and the slot's bytes: a struct of
+// the two would be taken apart again in each.
 
 // The delta of a slot of this kind.
 fn delta_in(layout: Layout, kind: Kind, slot: &Slot) -> Delta

@@ -14,7 +14,7 @@ use workshop::newest::Newest;
 use workshop::pressure::kpa_in;
 use workshop::tyre::TyreId;
 
-// The block in a slot.
+// The block in a slot. Its number is below three, here and below: a type for it would be no plainer.
 fn block_at(fragment: &Fragment, slot: usize) -> &Block
     requires { slot < slots_in_fragment }
     ensures { result.now ≡ drop delta_length (slot_in fragment.now slot) }

@@ -14,7 +14,7 @@ pub(crate) struct SlotBytes {
 }
 
 impl SlotBytes {
-    // Fills a slot; no other byte changes.
+    // Fills a slot; no other byte changes. Both numbers are in range: types for them would be no plainer.
     pub(crate) fn put(&mut self, index: usize, slot: usize, delta: &Delta, block: &Block)
         requires index { index < 7 }
         requires slot { slot < slots_in_fragment }

@@ -5,6 +5,8 @@
 mod boxes;
 mod show;
 mod task;
+#[cfg(test)]
+mod tests;
 
 use anyhow::Context;
 use boxes::{most_stripes, on_shelf, places};

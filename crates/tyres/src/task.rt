@@ -25,7 +25,7 @@ pub(crate) fn readings(rt: &HostRuntime) -> anyhow::Result<Vec<Reading>> {
 }
 
 // The readings in stripes on the boxes.
-fn packed<R: ServerRow>(
+pub(crate) fn packed<R: ServerRow>(
     boxes: &mut R,
     row: RowLength,
     readings: &[Reading],
