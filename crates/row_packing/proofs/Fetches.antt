@@ -1,12 +1,13 @@
 -- Fragments fetched and put together.
-use Rattle.std.proofs.Common.{◌≡◌, ℕ, zero, suc, ◌+◌, ◌-◌, ◌<◌, ◌≤◌, cond, eqb, List, [], ◌∷◌, map, length, Some, Ok, Err, Result, true, false, sym, refl, ap, ne_eqb}
+use Rattle.std.proofs.Common.{◌≡◌, ℕ, zero, suc, ◌+◌, ◌-◌, ◌<◌, ◌≤◌, cond, eqb, List, [], ◌∷◌, map, length, is_some, Option, Some, None, Ok, Err, Result, true, false, sym, refl, ap, ne_eqb}
 use Rattle.std.specs.List.{range_with_len, AllByRecursion}
 use Rattle.std.specs.Result.{result_and}
 use Rattle.ordered.specs.Maps.{find}
 use Rattle.ordered.specs.declared.fault.MapFault.{MapFault}
+use Rattle.ordered.specs.declared.fault.MapFault.TheVariants.{Absent}
 use Rattle.parity.specs.Xor.{xored, nought, Long}
 use Rattle.parity.proofs.Xors.{xored_assoc, xored_nought, nought_xored, length-xor_all}
-use Rattle.server.specs.Meaning.{Meaning, Sound, Piece, IsPiece, piece_key, bytes_of, or_else, held_answer}
+use Rattle.server.specs.Meaning.{Meaning, Sound, Piece, IsPiece, piece_key, bytes_of, or_else, held_answer, fetched, bytes_under}
 use Rattle.row.specs.Rows.{at}
 use Rattle.row_packing.specs.Fetches.{leaving, bytes_on, fetches_answer, put_together}
 use Rattle.row_packing.proofs.Counts.{left_more, left_none}
@@ -16,6 +17,14 @@ use Rattle.row_packing.proofs.Counts.{left_more, left_none}
 pub given : {A E : Type 0} (a : Result (Unit {0}) E) (x y : A) → Ok x ≡ result_and a (Ok y) → (a ≡ Ok tt) × (x ≡ y)
 given (Ok u) x y e = (refl, cc)
 given (Err f) x y e = cc
+
+-- what is fetched where it is held is what lies under the key
+pub found : (m : Meaning) (k : ℕ) (x : List ℕ) → Ok x ≡ result_and (held_answer m k) (Ok (fetched m k nought)) → bytes_under m k ≡ Some x
+found m k x e = by (find piece_key m.held k) e
+  where
+    by : (p : Option Piece) → Ok x ≡ result_and (cond (is_some p) (Ok (tt {0})) (Err Absent)) (Ok (or_else (bytes_of p) nought)) → bytes_of p ≡ Some x
+    by (Some p) h = cc
+    by None h = cc
 
 -- what is fetched is a fragment
 

@@ -1,5 +1,6 @@
-// The workshop's task: gate readings on standard input, packed into stripes over boxes; one box is
-// lost, and the list of tyres that want air is the same.
+// The workshop's task: gate readings on standard input, packed into stripes over three boxes of
+// different kinds. One box is lost, filled again from the others and opened afresh, and the list of
+// tyres that want air stays the same.
 #![tactic(auto)]
 
 mod boxes;
@@ -9,31 +10,22 @@ mod task;
 mod tests;
 
 use anyhow::Context;
-use boxes::{most_stripes, on_shelf, places};
+use boxes::{area, most_stripes, places};
 use geometry::row::RowLength;
-use row::beside::Beside;
+use shelf::shelf::Shelf;
 use task::{readings, run};
 
-// How many boxes there are.
-const BOXES: u64 = 4;
+// How many boxes there are: a shelf, a log and a cached shelf.
+const BOXES: u64 = 3;
 
 fn main(rt: HostRuntime) -> anyhow::Result<()> {
     let row = RowLength::new(BOXES).context("no rack has a row of so many boxes")?;
     let readings = readings(&rt)?;
     let stripes = most_stripes(row, readings.len());
     let mut first = places(rt.alloc(), stripes)?;
-    let mut second = places(rt.alloc(), stripes)?;
+    let mut second = area(rt.alloc(), stripes)?;
     let mut third = places(rt.alloc(), stripes)?;
-    let mut fourth = places(rt.alloc(), stripes)?;
-    let mut boxes = Beside {
-        left: Beside {
-            left: on_shelf(&mut first),
-            right: on_shelf(&mut second),
-        },
-        right: Beside {
-            left: on_shelf(&mut third),
-            right: on_shelf(&mut fourth),
-        },
-    };
-    run(&rt, row, &mut boxes, readings.as_slice())
+    let shelf = Shelf::new(&mut first);
+    let below = Shelf::new(&mut third);
+    run(&rt, row, readings.as_slice(), shelf, &mut second, below)
 }

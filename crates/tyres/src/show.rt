@@ -1,4 +1,5 @@
 // What the program prints.
+use crate::boxes::KINDS;
 use geometry::key::Key;
 use geometry::part::Part;
 use geometry::placement::PlacedStripe;
@@ -17,10 +18,10 @@ fn show_fragment(rt: &HostRuntime, stripe: PlacedStripe, server: u8) -> io::Resu
     }
 }
 
-// What lies on which box.
+// What kind each box is, and what lies on it.
 pub(crate) fn show_boxes(rt: &HostRuntime, row: RowLength, boxes: &[Vec<Key>]) -> io::Result<()> {
-    for (server, keys) in (0..row.servers()).zip(boxes) {
-        print!(rt; "box {server}:")?;
+    for ((server, kind), keys) in (0..row.servers()).zip(KINDS).zip(boxes) {
+        print!(rt; "box {server}, {kind}:")?;
         for key in keys {
             show_fragment(rt, PlacedStripe { row, key: *key }, server)?;
         }

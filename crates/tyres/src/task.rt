@@ -1,19 +1,35 @@
 // The readings, and what is done with them over a row of boxes.
+use crate::boxes::in_a_row;
 use crate::show::{show_boxes, show_list};
 use anyhow::bail;
+use cache::layer::Cache;
 use geometry::row::RowLength;
+use geometry::sizes::Fragment;
+use log_server::log::LogServer;
+use row::beside::Beside;
 use row::row::ServerRow;
-use row_packing::contents::contents;
+use row_packing::contents::{contents, fragments_on};
 use row_packing::fault::PackFault;
 use row_packing::log::Log;
 use row_packing::pack::Packer;
+use row_packing::refill::fill_again;
 use row_packing::unpack::read_back;
+use server::fragment_server::FragmentServer;
 use workshop::input::add_line;
 use workshop::low::LowTyre;
 use workshop::reading::Reading;
 
-// Which box is lost.
+// Which box is lost: the log.
 const LOST: u8 = 1;
+
+// What is known of the boxes while all are there: the low tyres, and the fragments on the box that
+// will be lost.
+#[derive(Drop)]
+pub(crate) struct Kept {
+    log: Log,
+    low: Vec<LowTyre>,
+    fragments: Vec<Fragment>,
+}
 
 // The readings on standard input, one a line.
 pub(crate) fn readings(rt: &HostRuntime) -> anyhow::Result<Vec<Reading>> {
@@ -49,12 +65,13 @@ fn low_tyres<R: ServerRow>(
     Ok(newest.low_list(rt.alloc())?)
 }
 
-pub(crate) fn run<R: ServerRow>(
+// Packs the readings, says what lies where, and lists the low tyres.
+fn pack_and_list<R: ServerRow>(
     rt: &HostRuntime,
     row: RowLength,
     boxes: &mut R,
     readings: &[Reading],
-) -> anyhow::Result<()> {
+) -> anyhow::Result<Kept> {
     let packer = packed(boxes, row, readings)?;
     let log = packer.log();
     let count = readings.len();
@@ -63,15 +80,96 @@ pub(crate) fn run<R: ServerRow>(
     println!(rt; "{count} readings in {stripes} stripes over {servers} boxes")?;
     let held = contents(rt.alloc(), boxes, log)?;
     show_boxes(rt, row, held.as_slice())?;
-    let whole = low_tyres(rt, boxes, None, log)?;
+    let low = low_tyres(rt, boxes, None, log)?;
     println!(rt; "tyres below 600 kPa, all boxes there:")?;
-    show_list(rt, whole.as_slice())?;
-    let without = low_tyres(rt, boxes, Some(LOST), log)?;
-    println!(rt; "tyres below 600 kPa, box {LOST} lost and put together from the others:")?;
-    show_list(rt, without.as_slice())?;
-    if whole.as_slice() != without.as_slice() {
-        bail!("the two lists differ");
+    show_list(rt, low.as_slice())?;
+    let fragments = fragments_on(rt.alloc(), boxes, LOST, log)?;
+    Ok(Kept {
+        log,
+        low,
+        fragments,
+    })
+}
+
+// How many fragments the lost box has once it is back. They must be those that it had.
+fn count_again<R: ServerRow>(
+    rt: &HostRuntime,
+    boxes: &mut R,
+    kept: &Kept,
+) -> anyhow::Result<usize> {
+    let fragments = fragments_on(rt.alloc(), boxes, LOST, kept.log)?;
+    if fragments.as_slice() != kept.fragments.as_slice() {
+        bail!("box {LOST} holds other fragments than before");
     }
+    Ok(fragments.len())
+}
+
+// The low tyres once more, with a box missing if need be. They must be those of before.
+fn low_again<R: ServerRow>(
+    rt: &HostRuntime,
+    boxes: &mut R,
+    missing: Option<u8>,
+    kept: &Kept,
+) -> anyhow::Result<Vec<LowTyre>> {
+    let low = low_tyres(rt, boxes, missing, kept.log)?;
+    if low.as_slice() != kept.low.as_slice() {
+        bail!("the list of low tyres is another than before");
+    }
+    Ok(low)
+}
+
+// Loses a box, lists the low tyres without it, and fills it again from the others.
+fn lose_and_refill<R: ServerRow>(
+    rt: &HostRuntime,
+    boxes: &mut R,
+    kept: &Kept,
+) -> anyhow::Result<()> {
+    boxes.wipe(LOST as usize);
+    let low = low_again(rt, boxes, Some(LOST), kept)?;
+    println!(rt; "tyres below 600 kPa, box {LOST} lost and put together from the others:")?;
+    show_list(rt, low.as_slice())?;
     println!(rt; "the two lists agree")?;
+    fill_again(boxes, LOST, kept.log)?;
+    let count = count_again(rt, boxes, kept)?;
+    println!(rt;
+        "box {LOST} wiped and filled again from the others: it holds {count} fragments, those of before"
+    )?;
+    let low = low_again(rt, boxes, None, kept)?;
+    println!(rt; "tyres below 600 kPa, all boxes there again:")?;
+    show_list(rt, low.as_slice())?;
+    println!(rt; "the list agrees with the first")?;
     Ok(())
+}
+
+// Reads the boxes once the lost box is opened afresh on its bytes.
+fn read_opened<R: ServerRow>(rt: &HostRuntime, boxes: &mut R, kept: &Kept) -> anyhow::Result<()> {
+    let records = boxes.capacity(LOST as usize);
+    let count = count_again(rt, boxes, kept)?;
+    println!(rt;
+        "box {LOST} closed and opened again on its bytes: {records} records, {count} fragments, those of before"
+    )?;
+    low_again(rt, boxes, None, kept)?;
+    println!(rt; "the list read with it agrees with the first")?;
+    Ok(())
+}
+
+// The task on a shelf, a log on this area, and a cache over a shelf. The log is opened twice on its
+// area. The shelves' types are parameters, since the check covers no type argument that holds both
+// lent memory and a cache's slots.
+pub(crate) fn run<A: FragmentServer + Drop, C: FragmentServer + Drop>(
+    rt: &HostRuntime,
+    row: RowLength,
+    readings: &[Reading],
+    shelf: A,
+    area: &mut [u8],
+    below: C,
+) -> anyhow::Result<()> {
+    let mut boxes = in_a_row(shelf, LogServer::open(area), Cache::new(below));
+    let kept = pack_and_list(rt, row, &mut boxes, readings)?;
+    lose_and_refill(rt, &mut boxes, &kept)?;
+    let Beside { left, right } = boxes;
+    let Beside { left: log, right } = right;
+    drop(log); // All that is left of it is its area's bytes.
+    let mut boxes = in_a_row(left.server, LogServer::open(area), right.server);
+    read_opened(rt, &mut boxes, &kept)
 }

@@ -3,3 +3,4 @@ pub mod Lines
 pub mod Pressures
 pub mod Tyres
 pub mod Readings
+pub mod Inputs

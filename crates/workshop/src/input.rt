@@ -1,7 +1,6 @@
 // Readings taken from lines of text.
-ghost use Rattle.std.specs.Prelude.{◌≡◌, [], ◌∷◌, ◌++◌, Ok, MatchResult};
-ghost use Rattle.workshop.specs.declared.reading.Reading.{Reading};
-ghost use Rattle.workshop.specs.Lines.{read_line};
+ghost use Rattle.std.specs.Prelude.{Some, length};
+ghost use Rattle.workshop.specs.Inputs.{taken_line, AddedLine, input_message};
 
 use crate::reading::{Reading, parse};
 use crate::wrong::Wrong;
@@ -19,8 +18,10 @@ pub enum InputFault {
     Memory(usize),
 }
 
-// By hand: it names the line, and what is wrong there.
+// By hand: it names the line, and what is wrong there. `output` states the text, which is proved.
 impl fmt::Display for InputFault {
+    ghost output = { λ f. Some (input_message f) };
+
     fn fmt<W: fmt::Write>(&self, f: &mut fmt::Formatter<W>) -> fmt::Result {
         match self {
             InputFault::Line(line, wrong) => write!(f, "line {line}: {wrong}"),
@@ -37,7 +38,7 @@ impl Error for InputFault {}
 
 // Adds the reading on this line. A line that is refused leaves the readings as they were.
 pub fn add_line(readings: &mut Vec<Reading>, line: usize, text: &[u8]) -> Result<(), InputFault>
-    ensures { MatchResult result (λ _. (reading : Reading) × (read_line text.now ≡ Ok reading) × (readings.new.items ≡ readings.old.items ++ reading ∷ [])) (λ _. readings.new.items ≡ readings.old.items) }
+    ensures { AddedLine line (taken_line (length readings.old.items) line text.now) readings.old.items readings.new.items result }
 {
     let reading = parse(text).map_err(|wrong| InputFault::Line(line, wrong))?;
     if readings.len() >= MOST_READINGS {
