@@ -1,8 +1,9 @@
-// Speed of the formats' inner work. Without arguments it says what it did; with the word `times` it
-// says how long each round took, in nanoseconds.
+// Speed of the formats' inner work and of the fragment servers. Without arguments it says what it did;
+// with the word `times` it does more of it, and says how long each round or call took, in nanoseconds.
 #![tactic(auto)]
 
 mod parity_rounds;
+mod servers;
 
 use std::env;
 
@@ -13,5 +14,7 @@ fn timed(rt: &HostRuntime) -> anyhow::Result<bool> {
 }
 
 fn main(rt: HostRuntime) -> anyhow::Result<()> {
-    Ok(parity_rounds::run(&rt, timed(&rt)?)?)
+    let times = timed(&rt)?;
+    parity_rounds::run(&rt, times)?;
+    servers::run(&rt, times)
 }
