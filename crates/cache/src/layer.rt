@@ -74,10 +74,10 @@ impl<S: FragmentServer> FragmentServer for Cache<S> {
         ensures missed { is_ok result ≡ true → cached self.old.slots.all (number_of key) ≡ None → Keeps S.meaning self.old key out.new self.new }
         ensures kept { is_ok result ≡ true → AgreesBelow S.meaning self.old → cached self.new.slots.all (number_of key) ≡ Some out.new }
     {
-        if !self.below.holds(key) {
-            return Err(MapFault::Absent);
-        }
         if let Some(bytes) = self.slots.find(key) {
+            if !self.below.holds(key) {
+                return Err(MapFault::Absent);
+            }
             *out = *bytes;
             return Ok(());
         }
