@@ -53,7 +53,7 @@ def by_hand():
 def twins():
     crates = collections.defaultdict(set)
     for path, text in sources():
-        if "/tests.rt" in path or "format_tests" in path:
+        if "/tests.rt" in path or "_tests/" in path:
             continue
         crate = path.split("/")[1]
         for found in re.finditer(r"^(?:pub(?:\([a-z]+\))? )?fn (\w+)", text, re.M):
