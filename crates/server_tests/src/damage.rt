@@ -69,7 +69,8 @@ fn open(area: &LogArea) -> Result<bool, Wrong> {
     Ok(map.is_some())
 }
 
-// What a byte of a head is altered to: some bits turned alone, and the values about a state and a client.
+// What a byte of a head is altered to: some bits turned alone, and the values at the edges of a state
+// and of a client.
 fn altered(byte: u8) -> [u8; 8] {
     [byte ^ 1, byte ^ 2, byte ^ 4, byte ^ 128, 0, 1, 7, 8]
 }
