@@ -52,7 +52,7 @@ reads_fragment n k i a b c h fa fb fc =
     ∙ (λ t. all_read (reads 0 (omega arith) fa t ∷ reads 1 (omega arith) fb t ∷ reads 2 (omega arith) fc t ∷ []))
 
 -- slots that are all read were read one by one
-first_rest : (r : Result (Option Filled) Cause) (q : Result (List (Option Filled)) Cause) (rs : List (Result (Option Filled) Cause)) (slots : List (Option Filled)) → all_read rs ≡ q → all_read (r ∷ rs) ≡ Ok slots → (s : Option Filled) × (ss : List (Option Filled)) × (r ≡ Ok s) × (all_read rs ≡ Ok ss) × (slots ≡ s ∷ ss)
+pub first_rest : (r : Result (Option Filled) Cause) (q : Result (List (Option Filled)) Cause) (rs : List (Result (Option Filled) Cause)) (slots : List (Option Filled)) → all_read rs ≡ q → all_read (r ∷ rs) ≡ Ok slots → (s : Option Filled) × (ss : List (Option Filled)) × (r ≡ Ok s) × (all_read rs ≡ Ok ss) × (slots ≡ s ∷ ss)
 first_rest (Ok s) (Ok ss) rs slots p e = (s, ss, refl, p, (cc))
 first_rest (Ok s) (Err c) rs slots p e = cc
 first_rest (Err c) q rs slots p e = cc

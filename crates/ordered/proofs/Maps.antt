@@ -1,5 +1,5 @@
 -- Laws of ordered maps.
-use Rattle.std.proofs.Common.{◌≡◌, ℕ, suc, ◌+◌, ◌<◌, ◌≤◌, true, false, List, [], ◌∷◌, map, length, Some, None, refl, ◌∙◌, arith}
+use Rattle.std.proofs.Common.{◌≡◌, ℕ, suc, ◌+◌, ◌<◌, ◌≤◌, true, false, ◌||◌, List, [], ◌∷◌, map, length, Some, None, nat_eq, refl, ◌∙◌, arith}
 use Rattle.std.specs.Option.{option_map}
 use Rattle.std.proofs.lemmas.Bool.Decides.{nat_tests}
 use Rattle.ordered.specs.Maps.{find, has, put, without, least, rises_from, Rises}
@@ -22,6 +22,9 @@ module _ {X : Type 0} (n : X → ℕ) where
   pub find_put_other : (xs : List X) (e : X) (k : ℕ) → (k ≡ n e → ⊥) → find n (put n xs e) k ≡ find n xs k
   find_put_other [] e k h = grind (arith, nat_tests)
   find_put_other (x ∷ xs) e k h = let ih = find_put_other xs e k h in grind (arith, nat_tests)
+
+  pub has_put : (xs : List X) (e : X) (k : ℕ) → has n (put n xs e) k ≡ (nat_eq (n e) k || has n xs k)
+  has_put xs e k = let s = find_put_same xs e in let o = find_put_other xs e k in grind (arith, nat_tests)
 
   without_same : (xs : List X) (low k : ℕ) → rises_from n low xs ≡ true → find n (without n xs k) k ≡ None
   without_same [] low k r = refl

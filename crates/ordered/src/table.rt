@@ -31,7 +31,7 @@ impl<'a, E: Keyed> OrderedTable<'a, E> {
         }
     }
 
-    // This and the next three are the list's: a `Deref` would give callers the list's contracts.
+    // This and the next four are the list's: a `Deref` would give callers the list's contracts.
 
     // How many elements it holds.
     pub fn count(&self) -> usize
@@ -46,6 +46,13 @@ impl<'a, E: Keyed> OrderedTable<'a, E> {
         ensures { result ≡ room self.now }
     {
         self.list.room()
+    }
+
+    // The elements in their order.
+    pub fn elements(&self) -> &[E]
+        ensures { result.now ≡ items self.now }
+    {
+        self.list.elements()
     }
 
     // The element at a place in the order.

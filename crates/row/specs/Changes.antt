@@ -7,10 +7,29 @@ use Rattle.row.specs.declared.change.Change.TheVariants.{Store, Delete, Wipe}
 use Rattle.row.specs.declared.change.Cut.{Cut}
 use Rattle.row.specs.Rows.{at}
 
+-- a change by numbers: the server, then the key's number
+pub data Step : Type 0 where
+  StoreStep : ℕ → ℕ → List ℕ → Step
+  DeleteStep : ℕ → ℕ → Step
+  WipeStep : ℕ → Step
+
+abbrev pub stepped : List Meaning → Step → List Meaning
+stepped row (StoreStep s k bytes) = slice_set row s (store_after (at row s) k bytes)
+stepped row (DeleteStep s k) = slice_set row s (delete_after (at row s) k)
+stepped row (WipeStep s) = slice_set row s (wipe_after (at row s))
+
+-- one step after another
+abbrev pub stepped_all : List Step → List Meaning → List Meaning
+stepped_all [] row = row
+stepped_all (c ∷ cs) row = stepped_all cs (stepped row c)
+
+abbrev pub step_of : Change → Step
+step_of (Store s key bytes) = StoreStep s (number_of key) bytes
+step_of (Delete s key) = DeleteStep s (number_of key)
+step_of (Wipe s) = WipeStep s
+
 abbrev pub changed : List Meaning → Change → List Meaning
-changed row (Store s key bytes) = slice_set row s (store_after (at row s) (number_of key) bytes)
-changed row (Delete s key) = slice_set row s (delete_after (at row s) (number_of key))
-changed row (Wipe s) = slice_set row s (wipe_after (at row s))
+changed row c = stepped row (step_of c)
 
 -- one change after another
 abbrev pub applied : List Change → List Meaning → List Meaning

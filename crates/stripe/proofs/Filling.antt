@@ -1,12 +1,14 @@
 -- A stripe with one slot more.
-use Rattle.std.proofs.Common.{◌≡◌, ℕ, zero, suc, ◌+◌, ◌*◌, ◌/◌, ◌%◌, ◌<◌, ◌≤◌, ◌≢◌, List, [], ◌∷◌, ◌++◌, map, length, get_or, drop, set, replicate, Some, None, Ok, sym, refl, ap, subst, ◌∙◌, arith, length-set, get_or-set_other, get_or-set_same}
+use Rattle.std.proofs.Common.{◌≡◌, ℕ, zero, suc, ◌+◌, ◌*◌, ◌/◌, ◌%◌, ◌<◌, ◌≤◌, ◌≢◌, List, [], ◌∷◌, ◌++◌, map, length, get_or, drop, set, replicate, Some, None, Option, Ok, sym, refl, ap, subst, ◌∙◌, arith, length-set, get_or-set_other, get_or-set_same}
 use native.Mathlib.Decide.{dec_lt}
 use Rattle.std.specs.List.{range_with_len, flat_map, AllByRecursion}
+use Rattle.std.specs.Option.{option_map}
 use Rattle.std.proofs.lemmas.List.FromFn.{length-map-range_with_len, get_or-map-range_with_len, fill_by_all}
 use Rattle.std.proofs.ByRecursion.{All-push}
 use Rattle.std.proofs.lemmas.List.{length-append, drop_at}
 use Rattle.geometry.specs.Sizes.{slot_length, head_length}
 use Rattle.fragment.specs.declared.layout.Layout.TheVariants.{Two}
+use Rattle.fragment.specs.declared.delta.Delta.{Delta}
 use Rattle.fragment.specs.Slots.{Filled, Fair, FairSlot, slot_bytes, read_slot}
 use Rattle.fragment.specs.Heads.{head_bytes}
 use Rattle.fragment.specs.Fragments.{slot_in, put_slot, read_fragment}
@@ -45,6 +47,24 @@ pub slot_fair : (xs : List Filled) (m : ℕ) → AllByRecursion Fair xs → Fair
 slot_fair [] m a = tt
 slot_fair (x ∷ xs) zero a = a.0
 slot_fair (x ∷ xs) (suc m) a = slot_fair xs m a.1
+
+-- the deltas of the slots, none past the filled ones
+abbrev pub none : Option Delta
+none = None
+
+-- the delta of slot j
+abbrev pub told : List Filled → ℕ → Option Delta
+told xs j = option_map (λ x. x.delta) (slot_at xs j)
+
+none_there : (m j : ℕ) → get_or (replicate m none) j none ≡ none
+none_there zero j = refl
+none_there (suc m) zero = refl
+none_there (suc m) (suc j) = none_there m j
+
+pub told_at : (xs : List Filled) (m j : ℕ) → get_or (map (λ x. Some x.delta) xs ++ replicate m none) j none ≡ told xs j
+told_at [] m j = none_there m j
+told_at (x ∷ xs) m zero = refl
+told_at (x ∷ xs) m (suc j) = told_at xs m j
 
 -- every slot has its length
 slot_long : (xs : List Filled) (m : ℕ) → AllByRecursion Fair xs → length (slot_bytes (slot_at xs m)) ≡ slot_length

@@ -14,41 +14,42 @@ use crate::slots::SlotBytes;
 use fragment::codec::set_head;
 use fragment::delta::Delta;
 use fragment::name::FragmentName;
-use geometry::key::Key;
 use geometry::placement::PlacedStripe;
 use geometry::row::RowLength;
 use geometry::sizes::{Block, FRAGMENT_LENGTH, Fragment, MOST_DATA, SLOTS_IN_FRAGMENT};
 
+impl Default for StripeBuffer {
+    ghost is_default = { λ buffer. slots_in buffer ≡ [] };
+
+    fn default() -> StripeBuffer {
+        StripeBuffer::new()
+    }
+}
+
 impl StripeBuffer {
-    // A stripe for this row with no slot filled.
-    pub fn new(row: RowLength) -> StripeBuffer
-        ensures row { result.row ≡ row }
-        ensures slots { slots_in result ≡ [] }
+    // A stripe with no slot filled.
+    pub fn new() -> StripeBuffer
+        ensures { slots_in result ≡ [] }
     {
         let slots = SlotBytes {
             fragments: [[0; FRAGMENT_LENGTH]; MOST_DATA],
         };
-        StripeBuffer {
-            row,
-            filled: 0,
-            slots,
-        }
+        StripeBuffer { filled: 0, slots }
     }
 
-    // Fills the next slot: by fragment, then by slot; no byte of another slot changes. A refusal
-    // changes nothing.
-    pub fn fill(&mut self, delta: Delta, block: &Block) -> Result<(), FillFault>
-        ensures room { is_ok result ≡ (nat_lt 0 delta.version && nat_lt (length (slots_in self.old)) (slot_count self.old.row.servers)) }
+    // Fills the next slot: by fragment, then by slot; no byte of another slot changes. It is full
+    // where it has as many slots as a stripe on this row. A refusal changes nothing.
+    pub fn fill(&mut self, row: RowLength, delta: Delta, block: &Block) -> Result<(), FillFault>
+        ensures room { is_ok result ≡ (nat_lt 0 delta.version && nat_lt (length (slots_in self.old)) (slot_count row.servers)) }
         ensures fault { IfErr result (λ f. f ≡ (if delta.version == 0 then FillFault.NoVersion else FillFault.Full)) }
         ensures slots { slots_in self.new ≡ (if is_ok result then slots_in self.old ++ filled_with delta block.now ∷ [] else slots_in self.old) }
-        ensures row { self.new.row ≡ self.old.row }
         ensures bytes { self.new.slots.fragments ≡ (if is_ok result then with_slot self.old.slots.fragments self.old.filled (filled_with delta block.now) else self.old.slots.fragments) }
     {
         if delta.version == 0 {
             return Err(FillFault::NoVersion);
         }
         let next = self.filled;
-        if next >= self.row.slots() {
+        if next >= row.slots() {
             return Err(FillFault::Full);
         }
         self.slots.put(
@@ -61,17 +62,16 @@ impl StripeBuffer {
         Ok(())
     }
 
-    // Data fragment `index` of the stripe under this key, if the row has it; it reads back as the
-    // slots that it holds.
-    pub fn data_fragment(&self, key: Key, index: u8) -> Option<Fragment>
-        ensures bytes { result ≡ (if nat_lt (index + 1) self.now.row.servers then Some (data_bytes self.now.row.servers (number_of key) (slots_in self.now) index) else None) }
-        ensures reads { IfSome result (λ f. read_fragment self.now.row.servers (number_of key) index f ≡ Ok (slots_of (slots_in self.now) index)) }
+    // Data fragment `index` of this stripe, if its row has it; it reads back as the slots that it
+    // holds. Slots past those of the row are in none.
+    pub fn data_fragment(&self, stripe: PlacedStripe, index: u8) -> Option<Fragment>
+        ensures bytes { result ≡ (if nat_lt (index + 1) stripe.row.servers then Some (data_bytes stripe.row.servers (number_of stripe.key) (slots_in self.now) index) else None) }
+        ensures reads { IfSome result (λ f. read_fragment stripe.row.servers (number_of stripe.key) index f ≡ Ok (slots_of (slots_in self.now) index)) }
     {
-        if index >= self.row.data_fragments() {
+        if index >= stripe.row.data_fragments() {
             return None;
         }
         let mut fragment = self.slots.fragments[index as usize];
-        let stripe = PlacedStripe { row: self.row, key };
         set_head(&mut fragment, FragmentName { stripe, index });
         Some(fragment)
     }

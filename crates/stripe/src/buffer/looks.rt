@@ -2,15 +2,14 @@
 ghost use Rattle.std.specs.Prelude.{◌≡◌, ◌<◌, ◌≤◌, length, MatchOption};
 ghost use Rattle.std.specs.Option.{option_map};
 ghost use Rattle.geometry.specs.Sizes.{block_length};
-ghost use Rattle.stripe.specs.Contents.{slot_at, deltas_of};
+ghost use Rattle.stripe.specs.Contents.{slot_at, deltas_of, open_fragments};
 ghost use Rattle.stripe.specs.Means.{slots_in};
 
 use crate::buffer::StripeBuffer;
 use fragment::codec::{block_in, read_delta};
 use fragment::delta::Delta;
 use fragment::layout::Layout;
-use geometry::row::RowLength;
-use geometry::sizes::{Block, MOST_SLOTS, SLOTS_IN_FRAGMENT};
+use geometry::sizes::{Block, Fragment, MOST_SLOTS, SLOTS_IN_FRAGMENT};
 use std::array;
 
 impl StripeBuffer {
@@ -21,10 +20,11 @@ impl StripeBuffer {
         self.filled
     }
 
-    pub(crate) fn row(&self) -> RowLength
-        ensures { result ≡ self.now.row }
+    // The data fragments of the longest row with these slots, their heads still zero.
+    pub fn fragments(&self) -> &[Fragment]
+        ensures { result.now ≡ open_fragments (slots_in self.now) }
     {
-        self.row
+        &self.slots.fragments[..]
     }
 
     // The deltas of the slots in order, none past the filled ones.

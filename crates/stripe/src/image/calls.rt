@@ -15,25 +15,24 @@ use geometry::sizes::{FRAGMENT_LENGTH, Fragment, MOST_DATA};
 use parity::xor_all;
 
 impl StripeImage {
-    // The stripe with the buffer's slots, under this key.
-    pub fn new(buffer: &StripeBuffer, key: Key) -> StripeImage
-        ensures row { result.stripe.row ≡ buffer.now.row }
-        ensures key { result.stripe.key ≡ key }
-        ensures each { (s : ℕ) → s < result.stripe.row.servers → image_on result s ≡ fragment_on result.stripe.row.servers (number_of key) (data_fragments result.stripe.row.servers (number_of key) (slots_in buffer.now)) s }
+    // This stripe with the buffer's slots. Those past the slots of its row are not in it.
+    pub fn new(buffer: &StripeBuffer, stripe: PlacedStripe) -> StripeImage
+        ensures row { result.stripe.row ≡ stripe.row }
+        ensures key { result.stripe.key ≡ stripe.key }
+        ensures each { (s : ℕ) → s < stripe.row.servers → image_on result s ≡ fragment_on stripe.row.servers (number_of stripe.key) (data_fragments stripe.row.servers (number_of stripe.key) (slots_in buffer.now)) s }
         ensures missing { MissingIsTheOthers }
     {
-        let row = buffer.row();
         // Tried `array::from_fn`: that the index fits a byte is not known in the closure.
         let mut data = [[0; FRAGMENT_LENGTH]; MOST_DATA];
         for (index, fragment) in data.iter_mut().enumerate() {
-            if let Some(bytes) = buffer.data_fragment(key, index as u8) {
+            if let Some(bytes) = buffer.data_fragment(stripe, index as u8) {
                 *fragment = bytes;
             }
         }
         let mut parity = [0; FRAGMENT_LENGTH];
-        xor_all(&data[..row.data_fragments() as usize], &mut parity);
+        xor_all(&data[..stripe.row.data_fragments() as usize], &mut parity);
         StripeImage {
-            stripe: PlacedStripe { row, key },
+            stripe,
             parity,
             data,
         }

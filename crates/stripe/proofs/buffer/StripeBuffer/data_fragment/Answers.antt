@@ -11,8 +11,8 @@ there false e p = cc
 
 pub returns : goal.returns
 returns c =
-    let n = c.args.self.now.row.servers in
-    let k = number_of c.args.key in
+    let n = c.args.stripe.row.servers in
+    let k = number_of c.args.stripe.key in
     let xs = slots_in c.args.self.now in
     let written =
     c.set_head.ensures ∙ headed n k c.args.index xs c.args.self.now.slots.fragments c.args.self.now.formed (omega arith) in

@@ -1,35 +1,17 @@
-use Rattle.std.proofs.Common.{◌≡◌, ℕ, zero, suc, ◌-◌, ◌≤◌, List, [], ◌∷◌, ◌++◌, map, length, get_or, replicate, Some, None, Ok, Option, sym, refl, ap, ◌∙◌, arith, rules}
+use Rattle.std.proofs.Common.{◌≡◌, ◌-◌, ◌≤◌, List, map, length, Some, None, Ok, Option, sym, refl, ap, ◌∙◌, arith, rules}
 use Rattle.std.specs.List.{range_with_len}
 use Rattle.std.specs.Option.{option_map}
 use Rattle.std.specs.Result.{result_unwrap_or}
 use Rattle.std.proofs.lemmas.List.FromFn.{fill_by_all}
 use Rattle.std.proofs.lemmas.List.{length-append, length-map, length-replicate}
-use Rattle.fragment.specs.declared.delta.Delta.{Delta}
 use Rattle.fragment.specs.declared.layout.Layout.TheVariants.{Two}
 use Rattle.fragment.specs.Slots.{Filled, read_slot, delta_answer}
 use Rattle.stripe.specs.Contents.{slot_at, deltas_of}
 use Rattle.stripe.specs.Buffers.{bytes_at}
 use Rattle.stripe.specs.Means.{slots_in}
 use Rattle.stripe.proofs.Arrays.{from_fn_is}
-use Rattle.stripe.proofs.Filling.{length_slots, read_formed}
+use Rattle.stripe.proofs.Filling.{none, told, told_at, length_slots, read_formed}
 use Rattle.stripe.proofs.buffer.StripeBuffer.deltas.Goals as goal
-
-abbrev none : Option Delta
-none = None
-
--- the delta of slot j
-abbrev told : List Filled → ℕ → Option Delta
-told xs j = option_map (λ x. x.delta) (slot_at xs j)
-
-none_there : (m j : ℕ) → get_or (replicate m none) j none ≡ none
-none_there zero j = refl
-none_there (suc m) zero = refl
-none_there (suc m) (suc j) = none_there m j
-
-told_at : (xs : List Filled) (m j : ℕ) → get_or (map (λ x. Some x.delta) xs ++ replicate m none) j none ≡ told xs j
-told_at [] m j = none_there m j
-told_at (x ∷ xs) m zero = refl
-told_at (x ∷ xs) m (suc j) = told_at xs m j
 
 all_told : (xs : List Filled) → length xs ≤ 21 → map (told xs) (range_with_len 0 21) ≡ deltas_of xs
 all_told xs few =

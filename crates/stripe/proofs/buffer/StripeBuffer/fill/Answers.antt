@@ -43,7 +43,7 @@ invariant_of-self c =
 pub returns-then-next-slots-clause-room : goal.returns-then-next-slots-clause-room
 returns-then-next-slots-clause-room c =
     let long = length_slots c.args.self.now in
-    sym (and_right _ _ (le-ltb (length (slots_in c.args.self.now)) (slot_count c.args.self.now.row.servers) (omega arith)))
+    sym (and_right _ _ (le-ltb (length (slots_in c.args.self.now)) (slot_count c.args.row.servers) (omega arith)))
 
 pub returns-clause-room : goal.returns-clause-room
 returns-clause-room c =

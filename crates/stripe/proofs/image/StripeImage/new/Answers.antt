@@ -2,7 +2,6 @@ use Rattle.std.proofs.Common.{◌≡◌, ℕ, suc, ◌+◌, ◌-◌, ◌<◌, �
 use Rattle.std.specs.List.{range_with_len}
 use Rattle.std.proofs.lemmas.List.FromFn.{fill_by_all}
 use Rattle.std.proofs.lemmas.List.{length-take-le}
-use Rattle.geometry.specs.declared.row.RowLength.{RowLength}
 use Rattle.geometry.specs.Keys.{number_of}
 use Rattle.geometry.specs.Placement.{steps_on}
 use Rattle.geometry.proofs.Rounds.{steps_below}
@@ -39,20 +38,19 @@ unwrapped e = cc
 
 pub loop-index-preserved : goal.loop-index-preserved
 loop-index-preserved c =
-    let n = c.row-row.result.servers in
-    let same : n ≡ c.args.buffer.now.row.servers = ap (λ (r : RowLength). r.servers) c.row-row.ensures in
-    let g : ℕ → List ℕ = λ i. data_bytes n (number_of c.args.key) (slots_in c.args.buffer.now) i in
+    let n = c.args.stripe.row.servers in
+    let g : ℕ → List ℕ = λ i. data_bytes n (number_of c.args.stripe.key) (slots_in c.args.buffer.now) i in
     elim c.match-data_fragment.branch [
       | in-Some w ↦ one_more n c.loop-index.fragment-items _ c.loop-index.index _ g w.fragment-items-is c.loop-index-test.true c.loop-index.invariant.0 c.loop-index.invariant.1
-          (λ h. unwrapped (there _ (lt-ltb _ _ (omega arith)) w.in-Some.ensures.bytes) ∙ ap (λ m. data_bytes m (number_of c.args.key) (slots_in c.args.buffer.now) c.loop-index.index) (sym same))
+          (λ h. unwrapped (there _ (lt-ltb _ _ (omega arith)) w.in-Some.ensures.bytes))
       | in_default w ↦ one_more n c.loop-index.fragment-items _ c.loop-index.index _ g w.fragment-items-is c.loop-index-test.true c.loop-index.invariant.0 c.loop-index.invariant.1
           (λ h. absurd (w.in_default.not-Some _ (there _ (lt-ltb _ _ (omega arith)) c.data_fragment.ensures.bytes)))
     ]
 
 pub returns-clause-each : goal.returns-clause-each
 returns-clause-each c =
-    let n = c.row-row.result.servers in
-    let k = number_of c.args.key in
+    let n = c.args.stripe.row.servers in
+    let k = number_of c.args.stripe.key in
     let items = c.loop-index.fragment-items in
     let front = fronted (n - 1) items (data_bytes n k (slots_in c.args.buffer.now)) c.xor_all.new.out (omega (arith, c.loop-index.invariant.0)) (λ i h. c.loop-index.invariant.1 i (omega arith) (omega arith)) (cc c.xor_all.ensures.sum) in
     λ u h.

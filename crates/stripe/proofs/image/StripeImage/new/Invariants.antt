@@ -8,4 +8,4 @@ use Rattle.stripe.proofs.image.StripeImage.new.Given as goal
 abbrev pub invariant-loop-index : goal.invariant-loop-index
 invariant-loop-index l =
     (length l.fragment-items ≡ 7)
-    × ((i : ℕ) → i < l.index → i + 1 < l.row.servers → get_or l.fragment-items i [] ≡ data_bytes l.row.servers (number_of l.key) (slots_in l.buffer) i)
+    × ((i : ℕ) → i < l.index → i + 1 < l.stripe.row.servers → get_or l.fragment-items i [] ≡ data_bytes l.stripe.row.servers (number_of l.stripe.key) (slots_in l.buffer) i)
