@@ -1,0 +1,16 @@
+pub mod Lists
+pub mod Entries
+pub mod Faults
+pub mod Worlds
+pub mod Answers
+pub mod Opening
+pub mod Sealing
+pub mod Fragments
+pub mod Reading
+pub mod Gathering
+pub mod Rebuilding
+pub mod Restarting
+pub mod Calls
+pub mod Plain
+pub mod Histories
+pub mod Promises
