@@ -1,0 +1,4 @@
+pub mod Means
+pub mod Turns
+pub mod Filling
+pub mod Newest

@@ -1,0 +1,3 @@
+pub mod Means
+pub mod Newest
+pub mod Picks
