@@ -1,0 +1,5 @@
+pub mod Entries
+pub mod Counting
+pub mod Walks
+pub mod Marks
+pub mod Deltas

@@ -1,0 +1,4 @@
+pub mod Tables
+pub mod Taking
+pub mod Pointing
+pub mod Live

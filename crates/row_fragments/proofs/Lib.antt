@@ -1,0 +1,4 @@
+pub mod Servers
+pub mod Fragments
+pub mod KeysHeld
+pub mod Lacking

@@ -1,0 +1,5 @@
+pub mod Servers
+pub mod Lacking
+pub mod Fetches
+pub mod Walks
+pub mod Stripes
