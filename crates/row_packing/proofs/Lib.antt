@@ -4,3 +4,4 @@ pub mod Fetches
 pub mod Notes
 pub mod Packers
 pub mod Refills
+pub mod Tables

@@ -1,11 +1,12 @@
 -- Servers filled again.
 use Rattle.std.proofs.Common.{◌≡◌, ℕ, zero, suc, ◌+◌, ◌-◌, ◌<◌, List, [], ◌∷◌, set, refl, arith}
-use borrow.Author.Tests.{eqb-false}
+use Rattle.std.specs.Prelude.{not, filter, nat_eq}
+use Rattle.std.proofs.lemmas.Bool.Decides.{nat_tests}
 use Rattle.std.specs.List.{range_with_len}
 use Rattle.geometry.specs.Keys.{key_number}
 use Rattle.server.specs.Meaning.{Meaning, store_after}
 use Rattle.row.specs.Rows.{at, nobody}
-use Rattle.row_packing.specs.Fetches.{leaving, others, put_together}
+use Rattle.row_packing.specs.Fetches.{others, put_together}
 use Rattle.row_packing.specs.Refills.{OthersStay, refilled}
 use Rattle.row_packing.proofs.Counts.{left_more}
 
@@ -16,9 +17,9 @@ at_set f e [] (suc s) = e
 at_set f e (m ∷ row) zero = refl
 at_set f e (m ∷ row) (suc s) = at_set f e row s
 
-together_leaving : (s : ℕ) (was after : List Meaning) (k : ℕ) → OthersStay s was after → (ts : List ℕ) → put_together after k (leaving s ts) ≡ put_together was k (leaving s ts)
+together_leaving : (s : ℕ) (was after : List Meaning) (k : ℕ) → OthersStay s was after → (ts : List ℕ) → put_together after k (filter (λ t. not (nat_eq s t)) ts) ≡ put_together was k (filter (λ t. not (nat_eq s t)) ts)
 together_leaving s was after k same [] = refl
-together_leaving s was after k same (t ∷ ts) = let others = together_leaving s was after k same ts in grind (arith, same t, eqb-false t s)
+together_leaving s was after k same (t ∷ ts) = let others = together_leaving s was after k same ts in grind (arith, nat_tests, same t)
 
 pub together_same : (n s : ℕ) (was after : List Meaning) (k : ℕ) → OthersStay s was after → put_together after k (others n s) ≡ put_together was k (others n s)
 together_same n s was after k same = together_leaving s was after k same (range_with_len 0 n)

@@ -6,7 +6,7 @@ use Rattle.ordered.specs.declared.fault.MapFault.TheVariants.{Absent}
 use Rattle.server.specs.Meaning.{Meaning, holds, bytes_under}
 use Rattle.row.specs.Rows.{at}
 use Rattle.row_packing.specs.declared.fault.PackFault.{PackFault}
-use Rattle.row_packing.specs.declared.fault.PackFault.TheVariants.{Memory, Spent, Refused, Bad}
+use Rattle.row_packing.specs.declared.fault.PackFault.TheVariants.{Memory, Spent, Refused, Bad, TableFull}
 
 -- the keys of the client's first stripes that server s holds
 abbrev pub held_of : List Meaning → ℕ → ℕ → ℕ → List ℕ
@@ -18,6 +18,7 @@ StopsBy client count Memory = Unit {0}
 StopsBy client count Spent = (j : ℕ) × (j < count) × (is_key client j ≡ false)
 StopsBy client count (Refused fault) = ⊥
 StopsBy client count (Bad cause) = ⊥
+StopsBy client count TableFull = ⊥
 
 -- the bytes that server s has of the client's stripe j, if it has them
 abbrev pub bytes_of_stripe : List Meaning → ℕ → ℕ → ℕ → Option (List ℕ)
@@ -29,3 +30,4 @@ LacksOr row client count s Memory = Unit {0}
 LacksOr row client count s Spent = (j : ℕ) × (j < count) × (is_key client j ≡ false)
 LacksOr row client count s (Refused fault) = (fault ≡ Absent) × (j : ℕ) × (j < count) × (holds (at row s) (key_number client j) ≡ false)
 LacksOr row client count s (Bad cause) = ⊥
+LacksOr row client count s TableFull = ⊥

@@ -5,3 +5,4 @@ pub mod Readings
 pub mod Packers
 pub mod Refills
 pub mod Contents
+pub mod Tables

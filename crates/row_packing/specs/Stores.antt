@@ -24,7 +24,7 @@ answer_on row (Store s key bytes) = store_answer (at row s) (number_of key)
 answer_on row (Delete s key) = held_answer (at row s) (number_of key)
 answer_on row (Wipe s) = Ok tt
 
-abbrev pub onward : {A : Type 0} → Result (Unit {0}) MapFault → A → (MapFault → A) → A
+abbrev pub onward : {A E : Type 0} → Result (Unit {0}) E → A → (E → A) → A
 onward (Ok u) next stop = next
 onward (Err f) next stop = stop f
 

@@ -19,6 +19,8 @@ pub enum PackFault {
     Refused(MapFault),
     // A fragment does not read back.
     Bad(Cause),
+    // The manager's table has too little room.
+    TableFull,
 }
 
 // By hand: no derive says, as `from_gives` does, which fault an error becomes.
@@ -80,6 +82,7 @@ impl fmt::Display for PackFault {
                     u8::from(*cause)
                 )
             }
+            PackFault::TableFull => write!(f, "the manager's table is full"),
         }
     }
 }

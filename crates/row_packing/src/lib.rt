@@ -5,6 +5,7 @@
 pub mod contents;
 pub mod fault;
 pub mod fetch;
+pub mod index;
 pub mod log;
 mod note;
 pub mod pack;

@@ -1,9 +1,10 @@
 // The workshop's task: gate readings on standard input, packed into stripes over three boxes of
 // different kinds. One box is lost, filled again from the others and opened afresh, and the list of
-// tyres that want air stays the same.
+// tyres that want air and the manager's table stay the same.
 #![tactic(auto)]
 
 mod boxes;
+mod live;
 mod show;
 mod task;
 #[cfg(test)]

@@ -1,5 +1,6 @@
 // The readings, and what is done with them over a row of boxes.
 use crate::boxes::in_a_row;
+use crate::live::{Indexed, index_boxes, show_live};
 use crate::show::{show_boxes, show_list};
 use anyhow::bail;
 use cache::layer::Cache;
@@ -22,12 +23,13 @@ use workshop::reading::Reading;
 // Which box is lost: the log.
 const LOST: u8 = 1;
 
-// What is known of the boxes while all are there: the low tyres, and the fragments on the box that
-// will be lost.
+// What is known of the boxes while all are there: the low tyres, the manager's table, and the fragments
+// on the box that will be lost.
 #[derive(Drop)]
 pub(crate) struct Kept {
     log: Log,
     low: Vec<LowTyre>,
+    indexed: Indexed,
     fragments: Vec<Fragment>,
 }
 
@@ -83,10 +85,13 @@ fn pack_and_list<R: ServerRow>(
     let low = low_tyres(rt, boxes, None, log)?;
     println!(rt; "tyres below 600 kPa, all boxes there:")?;
     show_list(rt, low.as_slice())?;
+    let indexed = index_boxes(rt.alloc(), boxes, None, log, count)?;
+    show_live(rt, log, &indexed)?;
     let fragments = fragments_on(rt.alloc(), boxes, LOST, log)?;
     Ok(Kept {
         log,
         low,
+        indexed,
         fragments,
     })
 }
@@ -118,6 +123,23 @@ fn low_again<R: ServerRow>(
     Ok(low)
 }
 
+// The manager's table once more, with a box missing. It must be that of before.
+fn index_again<R: ServerRow>(
+    rt: &HostRuntime,
+    boxes: &mut R,
+    missing: Option<u8>,
+    kept: &Kept,
+) -> anyhow::Result<()> {
+    let room = kept.indexed.entries.len();
+    let again = index_boxes(rt.alloc(), boxes, missing, kept.log, room)?;
+    if again.entries.as_slice() != kept.indexed.entries.as_slice()
+        || again.live.as_slice() != kept.indexed.live.as_slice()
+    {
+        bail!("the manager's table is another than before");
+    }
+    Ok(())
+}
+
 // Loses a box, lists the low tyres without it, and fills it again from the others.
 fn lose_and_refill<R: ServerRow>(
     rt: &HostRuntime,
@@ -129,6 +151,8 @@ fn lose_and_refill<R: ServerRow>(
     println!(rt; "tyres below 600 kPa, box {LOST} lost and put together from the others:")?;
     show_list(rt, low.as_slice())?;
     println!(rt; "the two lists agree")?;
+    index_again(rt, boxes, Some(LOST), kept)?;
+    println!(rt; "the manager's table made without box {LOST} agrees with the first")?;
     fill_again(boxes, LOST, kept.log)?;
     let count = count_again(rt, boxes, kept)?;
     println!(rt;

@@ -1,5 +1,7 @@
-// What lies on which box, once readings are packed: memory suffices to say it, on each kind of box.
+// What lies on which box, once readings are packed, and the table of it: memory suffices to say it, on
+// each kind of box.
 use crate::boxes::{area, in_a_row, places};
+use crate::live::index_boxes;
 use crate::task::packed;
 use cache::layer::Cache;
 use geometry::row::RowLength;
@@ -34,6 +36,10 @@ fn one_on_each<A: FragmentServer + Drop, C: FragmentServer + Drop>(
     let held = contents(heap, &mut boxes, log)?;
     assert_eq!(rt; held.len(), 3);
     assert!(rt; held.iter().all(|keys| keys.len() == 1));
+    let table = index_boxes(heap, &mut boxes, Some(1), log, 1)?;
+    assert_eq!(rt; table.entries.len(), 1);
+    assert_eq!(rt; table.live.as_slice(), [1].as_slice());
+    assert!(rt; index_boxes(heap, &mut boxes, None, log, 0).is_err());
     Ok(())
 }
 

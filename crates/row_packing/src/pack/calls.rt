@@ -1,18 +1,19 @@
 // Adding readings, and storing the stripe that they fill.
-ghost use Rattle.std.specs.Prelude.{◌≡◌, ◌+◌, ◌&&◌, [], ◌∷◌, ◌++◌, length, if◌then◌else◌, MatchResult, is_ok, nat_lt};
+ghost use Rattle.std.specs.Prelude.{◌≡◌, ◌+◌, ◌&&◌, [], ◌∷◌, length, if◌then◌else◌, MatchResult, is_ok, nat_lt};
 ghost use Rattle.geometry.specs.Sizes.{slot_count};
 ghost use Rattle.row.specs.Rows.{StaysCoherent};
-ghost use Rattle.stripe.specs.Means.{slots_in};
+ghost use Rattle.rack.specs.Opening.{with_slots};
+ghost use Rattle.open_stripe.specs.Means.{open_of};
 ghost use Rattle.row_packing.specs.Deltas.{delta_for};
-ghost use Rattle.row_packing.specs.Packers.{slot_for, AfterSeal, is_full, MadeRoom, Added};
+ghost use Rattle.row_packing.specs.Packers.{begun_at, slot_for, AfterSeal, is_full, MadeRoom, Added};
 
 use crate::fault::PackFault;
 use crate::pack::Packer;
 use crate::store::store_stripe;
 use fragment::delta::{Delta, Kind};
 use geometry::row::RowLength;
+use open_stripe::open::OpenStripe;
 use row::row::ServerRow;
-use stripe::buffer::StripeBuffer;
 use stripe::image::StripeImage;
 use workshop::pressure::block_of;
 use workshop::reading::Reading;
@@ -20,46 +21,45 @@ use workshop::reading::Reading;
 impl Packer {
     pub fn new(row: RowLength) -> Packer
         ensures row { result.row ≡ row }
-        ensures buffer { result.buffer.row ≡ row }
-        ensures slots { slots_in result.buffer ≡ [] }
+        ensures current { open_of result.current ≡ begun_at 0 }
         ensures stripes { result.stripes ≡ 0 }
         ensures version { result.version ≡ 0 }
     {
         Packer {
             row,
-            buffer: StripeBuffer::new(row),
+            current: OpenStripe::new(0),
             stripes: 0,
             version: 0,
         }
     }
 
-    // Stores the stripe under the next stripe number, and begins another. An empty stripe is not
-    // stored. A refusal leaves the packer.
+    // Stores the stripe under the next stripe number, and begins another, under the last version. An
+    // empty stripe is not stored. A refusal leaves the packer.
     pub fn seal<R: ServerRow>(&mut self, boxes: &mut R) -> Result<(), PackFault>
-        ensures sealed { MatchResult result (λ _. AfterSeal (slots_in self.old.buffer) self.old self.new (R.ServerRow.meanings boxes.old) (R.ServerRow.meanings boxes.new)) (λ _. self.new ≡ self.old) }
+        ensures sealed { MatchResult result (λ _. AfterSeal (open_of self.old.current).filled self.old self.new (R.ServerRow.meanings boxes.old) (R.ServerRow.meanings boxes.new)) (λ _. self.new ≡ self.old) }
         ensures coherent { StaysCoherent (R.ServerRow.coherent boxes.old) (R.ServerRow.coherent boxes.new) }
     {
-        if self.buffer.filled() == 0 {
+        if self.current.buffer().filled() == 0 {
             return Ok(());
         }
         let stripe = self.log().stripe(self.stripes)?;
-        let image = StripeImage::new(&self.buffer, stripe.key);
+        let image = StripeImage::new(self.current.buffer(), stripe);
         store_stripe(boxes, &image)?;
         self.stripes += 1;
-        self.buffer = StripeBuffer::new(self.row);
+        self.current = OpenStripe::new(self.version);
         Ok(())
     }
 
     // Fills the next slot with the reading. A refusal changes nothing.
     fn put(&mut self, reading: &Reading, version: u32) -> Result<(), PackFault>
-        ensures room { is_ok result ≡ (nat_lt 0 version && nat_lt (length (slots_in self.old.buffer)) (slot_count self.old.buffer.row.servers)) }
-        ensures slots { slots_in self.new.buffer ≡ (if is_ok result then slots_in self.old.buffer ++ slot_for reading.now version ∷ [] else slots_in self.old.buffer) }
+        ensures room { is_ok result ≡ (nat_lt 0 version && nat_lt (length (open_of self.old.current).filled) (slot_count self.old.row.servers)) }
+        ensures current { open_of self.new.current ≡ (if is_ok result then with_slots (open_of self.old.current) (slot_for reading.now version ∷ []) else open_of self.old.current) }
         ensures version { self.new.version ≡ (if is_ok result then version else self.old.version) }
         ensures stripes { self.new.stripes ≡ self.old.stripes }
         ensures row { self.new.row ≡ self.old.row }
     {
         let delta = delta_for(reading, version);
-        self.buffer.fill(delta, &block_of(reading.kpa))?;
+        self.current.fill(self.row, delta, &block_of(reading.kpa))?;
         self.version = version;
         Ok(())
     }
@@ -67,7 +67,7 @@ impl Packer {
     fn is_full(&self) -> bool
         ensures { result ≡ is_full self.now }
     {
-        self.row.slots() <= self.buffer.filled()
+        self.row.slots() <= self.current.buffer().filled()
     }
 
     // Stores the stripe where it is full. A refusal leaves the packer.

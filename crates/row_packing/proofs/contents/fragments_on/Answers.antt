@@ -12,7 +12,7 @@ loop-number-preserved g c =
     let was = g.R.ServerRow.meanings c.args.boxes.now in
     let log = c.args.log in
     let answer = rw (l.invariant.same, c.in_ok-stripe.ensures.key) at c.in_ok-get_fragment.ensures.fragment in
-    let bytes = found (at was c.args.server) _ _ answer in
+    let bytes = found (at was c.args.server) _ _ _ answer in
     let more = map-range_with_len_more (bytes_of_stripe was log.client c.args.server) 0 l.number l.number (omega arith) in
     record {
       same = c.get_fragment.ensures.after ∙ l.invariant.same;
