@@ -11,11 +11,11 @@ pub(crate) struct Digest {
 }
 
 impl Digest {
-    pub fn new() -> Digest {
+    pub(crate) fn new() -> Digest {
         Digest { hash: START }
     }
 
-    pub fn take_in(&mut self, fragments: &[Fragment]) {
+    pub(crate) fn take_in(&mut self, fragments: &[Fragment]) {
         self.hash = fragments.as_flattened().iter().fold(
             self.hash,
             |hash, byte| (hash ^ u64::from(*byte)).wrapping_mul(PRIME),

@@ -7,7 +7,7 @@ pub(crate) struct Noise {
 }
 
 impl Noise {
-    pub fn new(seed: u64) -> Noise {
+    pub(crate) fn new(seed: u64) -> Noise {
         Noise { state: seed }
     }
 
@@ -19,12 +19,12 @@ impl Noise {
         (self.state >> 32) as u32
     }
 
-    pub fn byte(&mut self) -> u8 {
+    pub(crate) fn byte(&mut self) -> u8 {
         (self.next() >> 24) as u8
     }
 
     // A number from 0 up to below the limit.
-    pub fn below(&mut self, limit: usize) -> usize
+    pub(crate) fn below(&mut self, limit: usize) -> usize
         requires { 0 < limit }
         ensures { result < limit }
     {

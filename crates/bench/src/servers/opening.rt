@@ -18,7 +18,7 @@ pub(crate) fn opening(rt: &HostRuntime, area: &mut [u8]) -> anyhow::Result<Durat
 }
 
 impl Openings {
-    pub fn show(&self, rt: &HostRuntime) -> anyhow::Result<()> {
+    pub(crate) fn show(&self, rt: &HostRuntime) -> anyhow::Result<()> {
         let rising = self.rising.as_micros();
         let after = self.after.as_micros();
         println!(rt; "    us to open: keys rising {rising}, after the calls {after}")?;

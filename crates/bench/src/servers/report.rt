@@ -13,7 +13,7 @@ pub(crate) struct Spent {
 }
 
 impl Spent {
-    pub fn new() -> Spent {
+    pub(crate) fn new() -> Spent {
         Spent {
             fetches_of_one: Duration::ZERO,
             fetches: Duration::ZERO,
@@ -42,7 +42,7 @@ impl Report {
             .unwrap_or(0)
     }
 
-    pub fn show(&self, rt: &HostRuntime, kind: &str, times: bool) -> anyhow::Result<()> {
+    pub(crate) fn show(&self, rt: &HostRuntime, kind: &str, times: bool) -> anyhow::Result<()> {
         let fragments = self.load.fragments;
         let calls = self.calls;
         let free = self.free;
