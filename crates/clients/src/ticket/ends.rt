@@ -57,14 +57,6 @@ impl<R: ServerRow> Ticket<R> {
         Ok(())
     }
 
-    // Spends the ticket of a withdraw that is refused with this cause before it comes to the clients.
-    pub fn withdraw_refused(self, cause: FaultCause) -> FaultCause
-        ensures { result ≡ cause }
-    {
-        self.spend();
-        cause
-    }
-
     fn spend(self) {
         let Ticket {
             client: _,
