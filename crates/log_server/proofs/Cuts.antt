@@ -118,3 +118,25 @@ records_next xs rs i e l =
       take_more (map piece_in all) i (piece_in []) (omega arith)
           ∙ ap (λ (q : Piece). take i (map piece_in all) ++ q ∷ []) (get_or-map piece_in all i [] (piece_in []) (omega arith) ∙ ap (λ (t : List (List ℕ)). piece_in (get_or t i [])) (sym e)),
     )
+
+-- the pieces from record i on, by the bytes from there on
+pub pieces_after : (i : ℕ) (xs : List ℕ) → record_length * i ≤ length xs → pieces_in (drop (record_length * i) xs) ≡ drop i (pieces_in xs)
+pieces_after i xs l =
+    let n : ℕ = length xs / record_length in
+    let left : length (drop (record_length * i) xs) / record_length ≡ n - i = simp length-drop (omega arith) in
+    ap (λ (k : ℕ). pieces k (drop (record_length * i) xs)) left
+    ∙ ap (map piece_in) (sym (ap (drop i) (records_add i (n - i) n xs (omega arith)) ∙ drop_at (records i xs) (records (n - i) (drop (record_length * i) xs)) i (length_records i xs)))
+    ∙ sym (drop-map piece_in i (records n xs))
+
+-- one more record of those that a walk from the last is over
+pub records_before : (xs : List ℕ) (rs : List (List ℕ)) (i : ℕ) → rs ≡ records_in xs → i < length rs
+    → (record_length * (i + 1) ≤ length xs) × (drop i (pieces_in xs) ≡ piece_in (get_or rs i []) ∷ drop (i + 1) (pieces_in xs))
+records_before xs rs i e l =
+    let n : ℕ = length xs / record_length in
+    let m = ap length e in
+    let c = length_records n xs in
+    let b : record_length * (i + 1) ≤ length xs = omega arith in (
+      b,
+      pieces_from i n xs (omega arith)
+          ∙ ap (λ (r : List ℕ). piece_in r ∷ drop (i + 1) (pieces_in xs)) (sym (ap (λ (t : List (List ℕ)). get_or t i []) e ∙ record_is i xs [] b)),
+    )

@@ -1,5 +1,5 @@
 -- Pieces in the order of their records, and the map of them.
-use Rattle.std.proofs.Common.{◌≡◌, ℕ, ◌<◌, ◌≤◌, Bool, true, false, cond, eqb, ltb, List, [], ◌∷◌, ◌++◌, length, take, drop, Some, None, Option, MatchOption, refl, ap, ◌∙◌, arith}
+use Rattle.std.proofs.Common.{◌≡◌, ℕ, zero, suc, ◌<◌, ◌≤◌, Bool, true, false, cond, eqb, ltb, List, [], ◌∷◌, ◌++◌, length, take, drop, Some, None, Option, MatchOption, refl, ap, ◌∙◌, arith}
 use Rattle.std.proofs.lemmas.Bool.Decides.{nat_tests}
 use Rattle.std.proofs.lemmas.List.{take-append-drop}
 use Rattle.ordered.specs.Maps.{find, has, put, without}
@@ -83,6 +83,19 @@ pub IsAbove-least : (f : Option ℕ) (b : Bool) (j k : ℕ) → MatchOption f (b
 IsAbove-least None b j k m t u = let z : ◌≡◌ {A = ℕ} 0 1 = cc in absurd (omega arith)
 IsAbove-least (Some g) b j k m t u = grind (arith, nat_tests)
 
+-- k is below the least so far
+abbrev pub IsBelow : Option ℕ → ℕ → Type 0
+IsBelow None k = Unit {0}
+IsBelow (Some l) k = k < l
+
+pub IsBelow-same : (f : Option ℕ) (b : Bool) (j k : ℕ) → MatchOption f (b ≡ true) (λ l. b ≡ ltb j l) → b ≡ true → k ≤ j → IsBelow f k
+IsBelow-same None b j k m t l = tt
+IsBelow-same (Some g) b j k m t l = grind (arith, nat_tests)
+
+pub IsBelow-greatest : (f : Option ℕ) (b : Bool) (j k : ℕ) → MatchOption f (b ≡ true) (λ l. b ≡ ltb j l) → b ≡ false → IsBelow f k → k < j
+IsBelow-greatest None b j k m t u = let z : ◌≡◌ {A = ℕ} 0 1 = cc in absurd (omega arith)
+IsBelow-greatest (Some g) b j k m t u = grind (arith, nat_tests)
+
 has_push : (ps : List Piece) (p : Piece) (k : ℕ) → has piece_key ps k ≡ false → eqb (piece_key p) k ≡ false → has piece_key (ps ++ p ∷ []) k ≡ false
 has_push [] p k h n = grind (arith, nat_tests)
 has_push (q ∷ ps) p k h n = let ih = has_push ps p k in grind (arith, nat_tests)
@@ -119,3 +132,22 @@ apart_fails i p ps qs e h =
     let b = ap apart e ∙ apart_pushed ps p h in
     let c = ap apart (take-append-drop i qs) in
     grind (arith, nat_tests)
+
+-- ---- the same, walked from the last
+
+-- one more piece, where the least so far becomes g
+pub apart_before : (ps qs : List Piece) (p : Piece) (f g : Option ℕ) → qs ≡ p ∷ ps → apart ps ≡ true → ((k : ℕ) → IsBelow f k → has piece_key ps k ≡ false)
+    → has piece_key ps (piece_key p) ≡ false → ((k : ℕ) → IsBelow g k → IsBelow f k × (k < piece_key p))
+    → (apart qs ≡ true) × ((k : ℕ) → IsBelow g k → has piece_key qs k ≡ false)
+apart_before ps qs p f g e a b h t =
+    let own : apart (p ∷ ps) ≡ true = grind (arith, nat_tests) in
+    (ap apart e ∙ own, λ k u. let m = t k u in let c = b k m.0 in let l = m.1 in ap (λ (rs : List Piece). has piece_key rs k) e ∙ (let n : has piece_key (p ∷ ps) k ≡ false = grind (arith, nat_tests) in n))
+
+apart_drop : (i : ℕ) (ps : List Piece) → apart ps ≡ true → apart (drop i ps) ≡ true
+apart_drop zero ps a = a
+apart_drop (suc i) [] a = refl
+apart_drop (suc i) (p ∷ ps) a = apart_drop i ps (grind (arith, nat_tests))
+
+-- a key that came later too
+pub apart_fails_before : (i : ℕ) (p : Piece) (ps qs : List Piece) → drop i qs ≡ p ∷ ps → has piece_key ps (piece_key p) ≡ true → false ≡ apart qs
+apart_fails_before i p ps qs e h = let a = apart_drop i qs in let b = ap apart e in grind (arith, nat_tests)

@@ -1,7 +1,7 @@
 -- Walking the pieces for a key, or for the least key from a given one on.
 use Rattle.std.proofs.Common.{◌≡◌, ℕ, zero, suc, ◌+◌, ◌<◌, min, Bool, true, false, cond, not, ◌&&◌, eqb, ltb, leb, List, [], ◌∷◌, ◌++◌, map, length, drop, is_some, Some, None, Option, IfSome, fold, sym, refl, ap, ◌∙◌, arith}
 use Rattle.std.proofs.lemmas.Bool.Decides.{nat_tests}
-use Rattle.std.specs.List.{filter, reduce, position_or_len}
+use Rattle.std.specs.List.{filter, reduce, position_or_len, list_any}
 use Rattle.std.specs.Option.{option_map}
 use Rattle.ordered.specs.Maps.{find, has, put, without, least}
 use Rattle.server.specs.Meaning.{Piece, piece_key, key_in}
@@ -12,6 +12,10 @@ use Rattle.log_server.specs.Walks.{place_of}
 pub has_place : (ps : List Piece) (k : ℕ) → has piece_key ps k ≡ is_some (place_of ps k)
 has_place [] k = refl
 has_place (p ∷ ps) k = let ih = has_place ps k in grind (arith, nat_tests)
+
+pub any_has : (rs : List (List ℕ)) (k : ℕ) → list_any (λ r. eqb (record_key r) k) rs ≡ has piece_key (map piece_in rs) k
+any_has [] k = refl
+any_has (r ∷ rs) k = let ih = any_has rs k in grind (arith, nat_tests)
 
 pub place_within : (ps : List Piece) (k i : ℕ) → place_of ps k ≡ Some i → i < length ps
 place_within [] k i e = let z : ◌≡◌ {A = ℕ} 0 1 = cc in omega arith

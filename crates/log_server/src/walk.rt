@@ -3,14 +3,15 @@ ghost use Rattle.std.specs.Prelude.{◌≡◌, ◌+◌, ◌*◌, ◌%◌, ◌≤
 ghost use Rattle.ordered.specs.Maps.{least};
 ghost use Rattle.server.specs.Meaning.{piece_key, key_in};
 ghost use Rattle.log_server.specs.Records.{record_length, records_in, record_at};
-ghost use Rattle.log_server.specs.Area.{pieces_in, front, apart, in_order, map_of};
+ghost use Rattle.log_server.specs.Area.{pieces_in, front, in_order, map_of};
 ghost use Rattle.log_server.specs.Walks.{place_of};
 
+use crate::apart::keys_apart;
 use crate::record::{RECORD_LENGTH, Record, is_held, key_number};
 use geometry::bytes::all_zero;
 
 // The whole records of these bytes.
-fn records_in(bytes: &[u8]) -> &[Record]
+pub(crate) fn records_in(bytes: &[u8]) -> &[Record]
     ensures { result.now ≡ records_in bytes.now }
 {
     bytes.as_chunks().0
@@ -53,23 +54,6 @@ pub(crate) fn nearest(records: &[u8], from: u64) -> Option<u64>
         .map(key_number)
         .filter(|key| *key >= from)
         .min()
-}
-
-// Whether no two of the records have one key. Where the keys rise from record to record, each is
-// looked at once.
-pub(crate) fn keys_apart(records: &[u8]) -> bool
-    ensures { result ≡ apart (pieces_in records.now) }
-{
-    let mut greatest: Option<u64> = None;
-    for (i, record) in records_in(records).iter().enumerate() {
-        let key = key_number(record);
-        if greatest.is_none_or(|greatest| greatest < key) {
-            greatest = Some(key);
-        } else if find(&records[..RECORD_LENGTH * i], key).is_some() {
-            return false;
-        }
-    }
-    true
 }
 
 // How many of these whole records are held, or none where they are not in order.

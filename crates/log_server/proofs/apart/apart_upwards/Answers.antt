@@ -9,8 +9,8 @@ use Rattle.log_server.specs.Walks.{place_of}
 use Rattle.log_server.proofs.Cuts.{pieces_before, records_next}
 use Rattle.log_server.proofs.Pieces.{IsAbove, IsAbove-same, IsAbove-least, apart_next, apart_fails}
 use Rattle.log_server.proofs.Places.{has_place}
-use Rattle.log_server.proofs.walk.keys_apart.Goals as goal
-use Rattle.log_server.proofs.walk.keys_apart.Goals.{then-is_none_or, else-is_none_or+else-is_some}
+use Rattle.log_server.proofs.apart.apart_upwards.Goals as goal
+use Rattle.log_server.proofs.apart.apart_upwards.Goals.{then-is_none_or, else-is_none_or+else-is_some}
 
 -- whether one of the pieces before has the key
 has_before : (xs : List ℕ) (i key : ℕ) (o : Option ℕ) → o ≡ place_of (pieces_in (take (record_length * i) xs)) key → record_length * i ≤ length xs

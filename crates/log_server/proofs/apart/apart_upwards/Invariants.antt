@@ -3,7 +3,7 @@ use Rattle.ordered.specs.Maps.{has}
 use Rattle.server.specs.Meaning.{piece_key}
 use Rattle.log_server.specs.Area.{pieces_in, apart}
 use Rattle.log_server.proofs.Pieces.{IsAbove}
-use Rattle.log_server.proofs.walk.keys_apart.Given as goal
+use Rattle.log_server.proofs.apart.apart_upwards.Given as goal
 
 -- those walked have keys of their own, none above the greatest
 abbrev pub invariant-loop-i : goal.invariant-loop-i
