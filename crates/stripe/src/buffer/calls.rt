@@ -1,5 +1,5 @@
 // Filling a stripe.
-ghost use Rattle.std.specs.Prelude.{◌≡◌, ◌+◌, ◌&&◌, [], ◌∷◌, ◌++◌, length, if◌then◌else◌, is_ok, IfSome, IfErr, ◌==◌, nat_lt};
+ghost use Rattle.std.specs.Prelude.{◌≡◌, ◌+◌, ◌<◌, ◌&&◌, [], ◌∷◌, ◌++◌, length, if◌then◌else◌, is_ok, IfSome, IfErr, ◌==◌, nat_lt};
 ghost use Rattle.geometry.specs.Keys.{number_of};
 ghost use Rattle.geometry.specs.Sizes.{slot_count};
 ghost use Rattle.fragment.specs.Fragments.{read_fragment};
@@ -71,8 +71,17 @@ impl StripeBuffer {
         if index >= stripe.row.data_fragments() {
             return None;
         }
-        let mut fragment = self.slots.fragments[index as usize];
-        set_head(&mut fragment, FragmentName { stripe, index });
+        let mut fragment = [0; FRAGMENT_LENGTH];
+        self.write_fragment(stripe, index, &mut fragment);
         Some(fragment)
+    }
+
+    // Writes that fragment where it is to stand: one that is handed on by value is copied again.
+    pub(crate) fn write_fragment(&self, stripe: PlacedStripe, index: u8, out: &mut Fragment)
+        requires { index + 1 < stripe.row.servers }
+        ensures { out.new ≡ data_bytes stripe.row.servers (number_of stripe.key) (slots_in self.now) index }
+    {
+        *out = self.slots.fragments[index as usize];
+        set_head(out, FragmentName { stripe, index });
     }
 }

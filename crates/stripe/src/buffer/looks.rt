@@ -10,7 +10,6 @@ use fragment::codec::{block_in, read_delta};
 use fragment::delta::Delta;
 use fragment::layout::Layout;
 use geometry::sizes::{Block, Fragment, MOST_SLOTS, SLOTS_IN_FRAGMENT};
-use std::array;
 
 impl StripeBuffer {
     // How many slots are filled.
@@ -31,10 +30,24 @@ impl StripeBuffer {
     pub fn deltas(&self) -> [Option<Delta>; MOST_SLOTS]
         ensures { result ≡ deltas_of (slots_in self.now) }
     {
-        array::from_fn(|slot| {
-            let fragment = &self.slots.fragments[slot / SLOTS_IN_FRAGMENT];
-            read_delta(fragment, Layout::Two, slot % SLOTS_IN_FRAGMENT).unwrap_or(None)
-        })
+        let mut deltas = [None; MOST_SLOTS];
+        // By number: `iter_mut` cut short by `take`, or `array::from_fn` over all slots, costs more.
+        for slot in 0..self.filled {
+            deltas[slot] = self.delta(slot);
+        }
+        deltas
+    }
+
+    // The delta in a slot, if it is filled. An empty slot is not read: it would be looked at to its last
+    // byte.
+    fn delta(&self, slot: usize) -> Option<Delta>
+        ensures { result ≡ option_map (λ x. x.delta) (slot_at (slots_in self.now) slot) }
+    {
+        if self.filled <= slot {
+            return None;
+        }
+        let fragment = &self.slots.fragments[slot / SLOTS_IN_FRAGMENT];
+        read_delta(fragment, Layout::Two, slot % SLOTS_IN_FRAGMENT).unwrap_or(None)
     }
 
     // The bytes of the block in a filled slot.

@@ -23,14 +23,15 @@ impl StripeImage {
         ensures missing { MissingIsTheOthers }
     {
         // Tried `array::from_fn`: that the index fits a byte is not known in the closure.
+        let fragments = stripe.row.data_fragments() as usize;
         let mut data = [[0; FRAGMENT_LENGTH]; MOST_DATA];
         for (index, fragment) in data.iter_mut().enumerate() {
-            if let Some(bytes) = buffer.data_fragment(stripe, index as u8) {
-                *fragment = bytes;
+            if index < fragments {
+                buffer.write_fragment(stripe, index as u8, fragment);
             }
         }
         let mut parity = [0; FRAGMENT_LENGTH];
-        xor_all(&data[..stripe.row.data_fragments() as usize], &mut parity);
+        xor_all(&data[..fragments], &mut parity);
         StripeImage {
             stripe,
             parity,

@@ -1,39 +1,42 @@
-use Rattle.std.proofs.Common.{◌≡◌, ◌-◌, ◌≤◌, List, map, length, Some, None, Ok, Option, sym, refl, ap, ◌∙◌, arith, rules}
-use Rattle.std.specs.List.{range_with_len}
+use Rattle.std.proofs.Common.{◌≡◌, ℕ, ◌+◌, ◌-◌, ◌<◌, List, ◌++◌, map, length, get_or, set, replicate, Some, None, Option, sym, ap, ◌∙◌, zero-add, arith}
+use lib.Seq.{paste}
 use Rattle.std.specs.Option.{option_map}
-use Rattle.std.specs.Result.{result_unwrap_or}
-use Rattle.std.proofs.lemmas.List.FromFn.{fill_by_all}
-use Rattle.std.proofs.lemmas.List.{length-append, length-map, length-replicate}
-use Rattle.fragment.specs.declared.layout.Layout.TheVariants.{Two}
-use Rattle.fragment.specs.Slots.{Filled, read_slot, delta_answer}
-use Rattle.stripe.specs.Contents.{slot_at, deltas_of}
-use Rattle.stripe.specs.Buffers.{bytes_at}
+use Rattle.std.proofs.lemmas.List.Edits.{paste_more, paste_all}
+use Rattle.std.proofs.lemmas.List.{length-map, get_or-map, drop-replicate}
+use Rattle.fragment.specs.declared.delta.Delta.{Delta}
+use Rattle.fragment.specs.Slots.{Filled}
+use Rattle.stripe.specs.Contents.{deltas_of}
+use Rattle.stripe.specs.Buffers.{no_slot}
 use Rattle.stripe.specs.Means.{slots_in}
-use Rattle.stripe.proofs.Arrays.{from_fn_is}
-use Rattle.stripe.proofs.Filling.{none, told, told_at, length_slots, read_formed}
+use Rattle.stripe.proofs.Filling.{length_slots, slot_there}
 use Rattle.stripe.proofs.buffer.StripeBuffer.deltas.Goals as goal
 
-all_told : (xs : List Filled) → length xs ≤ 21 → map (told xs) (range_with_len 0 21) ≡ deltas_of xs
-all_told xs few =
-    sym
-    (fill_by_all (told xs) (deltas_of xs) 21 none (simp (length-append, length-map, length-replicate) (omega arith)) (λ k l. told_at xs (21 - length xs) k))
+abbrev none : List (Option Delta)
+none = replicate 21 None
 
--- what code makes of a slot that reads
-made_of : (s : Option Filled) → result_unwrap_or (delta_answer (Ok s)) None ≡ option_map (λ x. x.delta) s
-made_of None = refl
-made_of (Some x) = refl
+abbrev told : List Filled → List (Option Delta)
+told xs = map (λ x. Some x.delta) xs
+
+one_more : (xs : List Filled) (i : ℕ) (d : Option Delta) → i < length xs → i < 21 → d ≡ Some (get_or xs i no_slot).delta → set (paste none 0 (told xs) i) i d ≡ paste none 0 (told xs) (i + 1)
+one_more xs i d h few e =
+    ap (set (paste none 0 (told xs) i) i) (e ∙ sym (get_or-map (λ (x : Filled). Some x.delta) xs i no_slot None h))
+    ∙ ap (λ t. set (paste none 0 (told xs) i) t (get_or (told xs) i None)) (sym (zero-add i))
+    ∙ paste_more none 0 (told xs) i None (omega arith) (omega (arith, length-map xs (λ (x : Filled). Some x.delta)))
+
+all_told : (xs : List Filled) (n : ℕ) → n ≡ length xs → paste none 0 (told xs) n ≡ deltas_of xs
+all_told xs n e =
+    paste_all none 0 (told xs) n (e ∙ sym (length-map xs (λ (x : Filled). Some x.delta)))
+    ∙ ap (λ t. told xs ++ t) (drop-replicate (0 + n) 21 None ∙ ap (λ m. replicate (21 - m) None) (zero-add n ∙ e))
+
+pub loop-slot-preserved : goal.loop-slot-preserved
+loop-slot-preserved c =
+    let xs = slots_in c.args.self.now in
+    let i = c.loop-slot.slot in
+    let l = length_slots c.args.self.now in
+    ap (λ ds. set ds i c.delta.result) c.loop-slot.invariant
+    ∙ one_more xs i c.delta.result (omega arith) (omega arith) (c.delta.ensures ∙ ap (option_map (λ x. x.delta)) (slot_there xs i no_slot (omega arith)))
 
 pub returns : goal.returns
 returns c =
-    let b = c.args.self.now in
-    let xs = slots_in b in
-    let l = length_slots b in
-    from_fn_is _ _ (told xs) 21 none
-    (λ i y q h k.
-    let made : y ≡ result_unwrap_or (delta_answer (read_slot Two (bytes_at b.slots.fragments i))) None = search rules in (
-      (search rules),
-      made ∙ ap (λ r. result_unwrap_or (delta_answer r) None) (read_formed b.slots.fragments b.filled i b.formed b.fair h)
-          ∙ made_of (slot_at xs i),
-    ))
-    c.from_fn.result c.from_fn.ensures.items
-    ∙ all_told xs (omega arith)
+    let l = length_slots c.args.self.now in
+    c.loop-slot.invariant ∙ all_told (slots_in c.args.self.now) c.loop-slot.slot (omega arith)

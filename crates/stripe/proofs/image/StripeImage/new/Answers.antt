@@ -1,4 +1,4 @@
-use Rattle.std.proofs.Common.{◌≡◌, ℕ, suc, ◌+◌, ◌-◌, ◌<◌, ◌≤◌, Bool, true, false, cond, List, [], ◌∷◌, map, length, get_or, take, set, Some, None, Option, sym, ap, ◌∙◌, arith, get_or-take, length-set, get_or-set_other, get_or-set_same, below_more, lt-ltb}
+use Rattle.std.proofs.Common.{◌≡◌, ℕ, suc, ◌+◌, ◌-◌, ◌<◌, ◌≤◌, List, [], ◌∷◌, map, length, get_or, take, set, sym, ap, ◌∙◌, arith, get_or-take, length-set, get_or-set_other, get_or-set_same, below_more}
 use Rattle.std.specs.List.{range_with_len}
 use Rattle.std.proofs.lemmas.List.FromFn.{fill_by_all}
 use Rattle.std.proofs.lemmas.List.{length-take-le}
@@ -11,7 +11,7 @@ use Rattle.stripe.specs.Means.{slots_in}
 use Rattle.stripe.specs.Rows.{pieces}
 use Rattle.stripe.proofs.Rounds.{missing_is_the_others}
 use Rattle.stripe.proofs.image.StripeImage.new.Goals as goal
-use Rattle.stripe.proofs.image.StripeImage.new.Goals.{in-Some, in_default}
+use Rattle.stripe.proofs.image.StripeImage.new.Goals.{then-index-fragments, else-index-fragments}
 
 -- the parity in front of the data fragments
 fronted : (m : ℕ) (ps : List (List ℕ)) (g : ℕ → List ℕ) (parity : List ℕ) → m ≤ length ps → ((i : ℕ) → i < m → get_or ps i [] ≡ g i) → parity ≡ xor_all (take m ps) → take (suc m) (parity ∷ ps) ≡ pieces (map g (range_with_len 0 m))
@@ -28,23 +28,13 @@ one_more n items after j v g e h long each here = (
       (λ r. ap (λ t. get_or t j []) e ∙ get_or-set_same items j v [] (omega arith) ∙ here r),
 )
 
--- what the row has is there
-there : (b : Bool) {o : Option (List ℕ)} {x : List ℕ} → b ≡ true → o ≡ cond b (Some x) None → o ≡ Some x
-there true p e = e
-there false p e = cc
-
-unwrapped : {x y : List ℕ} → Some x ≡ Some y → x ≡ y
-unwrapped e = cc
-
 pub loop-index-preserved : goal.loop-index-preserved
 loop-index-preserved c =
     let n = c.args.stripe.row.servers in
     let g : ℕ → List ℕ = λ i. data_bytes n (number_of c.args.stripe.key) (slots_in c.args.buffer.now) i in
-    elim c.match-data_fragment.branch [
-      | in-Some w ↦ one_more n c.loop-index.fragment-items _ c.loop-index.index _ g w.fragment-items-is c.loop-index-test.true c.loop-index.invariant.0 c.loop-index.invariant.1
-          (λ h. unwrapped (there _ (lt-ltb _ _ (omega arith)) w.in-Some.ensures.bytes))
-      | in_default w ↦ one_more n c.loop-index.fragment-items _ c.loop-index.index _ g w.fragment-items-is c.loop-index-test.true c.loop-index.invariant.0 c.loop-index.invariant.1
-          (λ h. absurd (w.in_default.not-Some _ (there _ (lt-ltb _ _ (omega arith)) c.data_fragment.ensures.bytes)))
+    elim c.if-index-fragments.branch [
+      | then-index-fragments w ↦ one_more n c.loop-index.fragment-items _ c.loop-index.index _ g w.fragment-items-is c.loop-index-test.true c.loop-index.invariant.0 c.loop-index.invariant.1 (λ h. w.write_fragment.ensures)
+      | else-index-fragments w ↦ one_more n c.loop-index.fragment-items _ c.loop-index.index _ g w.fragment-items-is c.loop-index-test.true c.loop-index.invariant.0 c.loop-index.invariant.1 (λ h. absurd (omega arith))
     ]
 
 pub returns-clause-each : goal.returns-clause-each
