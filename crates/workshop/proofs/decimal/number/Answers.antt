@@ -1,11 +1,13 @@
-use Rattle.std.proofs.Common.{◌≡◌, ◌∙◌, arith, rules}
-use Rattle.workshop.proofs.Digits.{text, parsed}
+use Rattle.std.proofs.Common.{◌≡◌, min, refl, ◌∙◌, rules, tests}
+use Rattle.std.proofs.lemmas.Iterator.{YieldsList-from_slice}
+use Rattle.std.proofs.lemmas.Iterator.Consumers.{fold_from_yields_List}
+use Rattle.workshop.specs.Lines.{read_on}
+use Rattle.workshop.proofs.Digits.{more, kept}
 use Rattle.workshop.proofs.decimal.number.Goals as goal
-
-pub returns-in_err-ok : goal.returns-in_err-ok
-returns-in_err-ok c = let is_text = text c.args.digits.now c.requires.digits in search rules
 
 pub returns : goal.returns
 returns c =
-    let same : c.in_ok-ok.field-0.now ≡ c.args.digits.now = grind arith in
-    c.ok-2.ensures.value ∙ parsed c.args.digits.now c.parse.result (rw same at c.parse.ensures.value.0) c.requires.digits c.requires.some
+    let ds = c.args.digits.now in
+    let e : c.fold-number.result ≡ min (read_on 0 ds) 65536 =
+    fold_from_yields_List _ more 0 _ c.fold-number.ensures.ran (YieldsList-from_slice ds (search rules)) (λ a x b q k. search (rules, tests)) ∙ kept ds 0 0 refl in
+    search rules
