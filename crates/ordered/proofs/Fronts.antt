@@ -7,7 +7,7 @@ use Rattle.std.proofs.lemmas.Slice.{take-put_mid, between_is}
 
 module _ {X : Type 0} where
   -- a count that is clamped to the memory gives the same front
-  front_is : (len : ℕ) (xs : List X) (count : ℕ) → count ≡ length (take len xs) → take count xs ≡ take len xs
+  pub front_is : (len : ℕ) (xs : List X) (count : ℕ) → count ≡ length (take len xs) → take count xs ≡ take len xs
   front_is len xs count e = ap (λ m. take m xs) (e ∙ length-take len xs) ∙ take_min len xs
 
   -- the last element moved to the front

@@ -101,10 +101,10 @@ module _ {X : Type 0} (n : X → ℕ) where
 
   -- ---- what an edit at a place that was sought leaves
 
-  sought_held : (xs : List X) (k i : ℕ) → Ok i ≡ sought n xs k → (i ≡ place n xs k) × (has n xs k ≡ true)
+  pub sought_held : (xs : List X) (k i : ℕ) → Ok i ≡ sought n xs k → (i ≡ place n xs k) × (has n xs k ≡ true)
   sought_held xs k i s = (grind (arith, nat_tests), grind (arith, nat_tests))
 
-  sought_lacks : (xs : List X) (k i : ℕ) → Err i ≡ sought n xs k → (i ≡ place n xs k) × (has n xs k ≡ false)
+  pub sought_lacks : (xs : List X) (k i : ℕ) → Err i ≡ sought n xs k → (i ≡ place n xs k) × (has n xs k ≡ false)
   sought_lacks xs k i s = (grind (arith, nat_tests), grind (arith, nat_tests))
 
   pub nth_sought : (xs : List X) (k i : ℕ) → Rises n xs → Ok i ≡ sought n xs k → slice_get xs i ≡ find n xs k

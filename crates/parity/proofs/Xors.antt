@@ -36,14 +36,14 @@ xored_nought f l = xored_zeros fragment_length f l
 pub nought_xored : (f : List ℕ) → Long f → xored nought f ≡ f
 nought_xored f l = xored_comm nought f ∙ xored_nought f l
 
-xored_self : (f : List ℕ) → Long f → xored f f ≡ nought
+pub xored_self : (f : List ℕ) → Long f → xored f f ≡ nought
 xored_self f l = xored_self_zeros f ∙ ap (λ n. replicate n 0) l
 
 pub length_xored : (f g : List ℕ) → Long f → Long g → Long (xored f g)
 length_xored f g l m = length-zip2 bit_xor f g (l ∙ sym m) ∙ l
 
 -- two that leave nothing are the same
-same_from_nought : (f g : List ℕ) → Long f → Long g → xored f g ≡ nought → g ≡ f
+pub same_from_nought : (f g : List ℕ) → Long f → Long g → xored f g ≡ nought → g ≡ f
 same_from_nought f g l m e =
     sym (nought_xored g m)
     ∙ ap (λ t. xored t g) (sym (xored_self f l))
@@ -61,7 +61,7 @@ length-xor_all (f ∷ fs) a = length_xored f (xor_all fs) a.0 (length-xor_all fs
 pub long_sum : (fs : List (List ℕ)) → ((i : ℕ) → i < length fs → Long (get_or fs i [])) → Long (xor_all fs)
 long_sum fs each = length-xor_all fs (All-from_get_or Long fs [] each)
 
-xor_all-append : (fs gs : List (List ℕ)) → AllByRecursion Long gs → xor_all (fs ++ gs) ≡ xored (xor_all fs) (xor_all gs)
+pub xor_all-append : (fs gs : List (List ℕ)) → AllByRecursion Long gs → xor_all (fs ++ gs) ≡ xored (xor_all fs) (xor_all gs)
 xor_all-append [] gs a = rw (nought_xored (xor_all gs) (length-xor_all gs a))
 xor_all-append (f ∷ fs) gs a = rw (xor_all-append fs gs a, xored_assoc)
 
@@ -77,7 +77,7 @@ pub parity_cancels : ParityCancels
 parity_cancels ds a = xored_self (xor_all ds) (length-xor_all ds a)
 
 -- any one of them can be taken out to the front
-xor_all_out : (before after : List (List ℕ)) (f : List ℕ) → xor_all (before ++ f ∷ after) ≡ xored f (xor_all (before ++ after))
+pub xor_all_out : (before after : List (List ℕ)) (f : List ℕ) → xor_all (before ++ f ∷ after) ≡ xored f (xor_all (before ++ after))
 xor_all_out [] after f = refl
 xor_all_out (b ∷ before) after f = rw (xor_all_out before after f, ← xored_assoc b f, xored_comm b f, xored_assoc)
 

@@ -4,13 +4,13 @@ use lib.Lanes.{zip2, chunk, put_chunk}
 use Rattle.std.proofs.lemmas.Grind.{common_steps}
 use Rattle.std.proofs.lemmas.Simd.{length-zip2, put_chunk_is}
 
-take_zip2 : (f : ℕ → ℕ → ℕ) (n : ℕ) (xs ys : List ℕ) → take n (zip2 f xs ys) ≡ zip2 f (take n xs) (take n ys)
+pub take_zip2 : (f : ℕ → ℕ → ℕ) (n : ℕ) (xs ys : List ℕ) → take n (zip2 f xs ys) ≡ zip2 f (take n xs) (take n ys)
 take_zip2 f zero xs ys = refl
 take_zip2 f (suc n) [] ys = refl
 take_zip2 f (suc n) (x ∷ xs) [] = refl
 take_zip2 f (suc n) (x ∷ xs) (y ∷ ys) = rw (take_zip2 f n xs ys)
 
-drop_zip2 : (f : ℕ → ℕ → ℕ) (n : ℕ) (xs ys : List ℕ) → length xs ≡ length ys → drop n (zip2 f xs ys) ≡ zip2 f (drop n xs) (drop n ys)
+pub drop_zip2 : (f : ℕ → ℕ → ℕ) (n : ℕ) (xs ys : List ℕ) → length xs ≡ length ys → drop n (zip2 f xs ys) ≡ zip2 f (drop n xs) (drop n ys)
 drop_zip2 f zero xs ys e = refl
 drop_zip2 f (suc n) [] ys e = refl
 drop_zip2 f (suc n) (x ∷ xs) [] e = absurd (omega arith)

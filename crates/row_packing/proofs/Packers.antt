@@ -25,7 +25,7 @@ version_stays : (xs : List Filled) (p q : Packer) (was after : List Meaning) →
 version_stays [] p q was after s = ap (λ t. t.version) s.0
 version_stays (x ∷ xs) p q was after s = s.version
 
-room_version : (b : Bool) (p q : Packer) (was after : List Meaning) → MadeRoom b p q was after → q.version ≡ p.version
+pub room_version : (b : Bool) (p q : Packer) (was after : List Meaning) → MadeRoom b p q was after → q.version ≡ p.version
 room_version true p q was after s = version_stays (open_of p.current).filled p q was after s
 room_version false p q was after s = ap (λ t. t.version) s.0
 

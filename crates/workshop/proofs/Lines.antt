@@ -69,7 +69,7 @@ from_field f bs n rest e = from (after (label f) bs) refl e
 
 -- ---- a line
 
-line_read : {truck tyre kpa : ℕ} (bs first second third : List ℕ) → Ok (truck, first) ≡ read_field Truck bs → Ok (tyre, second) ≡ read_field Tyre first → Ok (kpa, third) ≡ read_field Kpa second → at_end (record { truck = truck; tyre = tyre; kpa = kpa }) third ≡ read_line bs
+pub line_read : {truck tyre kpa : ℕ} (bs first second third : List ℕ) → Ok (truck, first) ≡ read_field Truck bs → Ok (tyre, second) ≡ read_field Tyre first → Ok (kpa, third) ≡ read_field Kpa second → at_end (record { truck = truck; tyre = tyre; kpa = kpa }) third ≡ read_line bs
 line_read bs first second third a b c = rw (← a) (rw (← b) (rw (← c) refl))
 
 pub reads_back : ReadsBack

@@ -9,7 +9,7 @@ use Rattle.workshop.specs.declared.tyre.TyreId.{TyreId}
 use Rattle.workshop.specs.Tyres.{by_tyre, numbers}
 use Rattle.workshop.specs.Readings.{noted_for, newer, NotedOnly}
 
-exact : (x y : TyreId) → by_tyre x y ≡ Equal → x ≡ y
+pub exact : (x y : TyreId) → by_tyre x y ≡ Equal → x ≡ y
 exact x y e =
     let tyre : ℕ × ℕ → TyreId = λ p. record { truck = p.0; tyre = p.1 } in
     ap tyre (exact_pairs nat_cmp nat_cmp exact_unsigned exact_unsigned (numbers x) (numbers y) e)

@@ -9,7 +9,8 @@ use crate::table::OrderedTable;
 impl<'a, E: Keyed> OrderedTable<'a, E> {
     // The first place whose number is not below `key`.
     pub(super) fn lower(&self, key: u64) -> usize
-        ensures { result ≡ place E.number (items self.now) key }
+        ensures within { result ≤ length (items self.now) }
+        ensures place { result ≡ place E.number (items self.now) key }
     {
         self.list
             .elements()

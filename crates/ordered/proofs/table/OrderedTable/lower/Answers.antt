@@ -5,8 +5,8 @@ use Rattle.ordered.specs.Places.{place}
 use Rattle.ordered.proofs.Places.{climbs, place_parts}
 use Rattle.ordered.proofs.table.OrderedTable.lower.Goals as goal
 
-pub returns : goal.returns
-returns g c =
+pub returns-clause-place : goal.returns-clause-place
+returns-clause-place g c =
     let n = g.E.Keyed.number in
     let k = c.args.key in
     let xs = c.elements.result.now in
