@@ -2,7 +2,7 @@
 ghost use Rattle.std.specs.Prelude.{◌≡◌};
 ghost use Rattle.geometry.specs.Bytes.{zeros};
 
-// How many bytes are compared with zeros at once: one by one takes five times as long.
+// How many bytes are compared with zeros at once. One by one, a long run takes ten times as long.
 const WIDTH: usize = 16;
 
 // Whether all these bytes are zero.
